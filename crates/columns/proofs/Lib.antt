@@ -1,0 +1,10 @@
+pub mod Test
+pub mod Size
+pub mod Bits
+pub mod Pascal
+pub mod Lists
+pub mod Order
+pub mod Next
+pub mod Rows
+pub mod Unrank
+pub mod SetBelow

@@ -1,0 +1,5 @@
+pub mod Bound
+pub mod Test
+pub mod Set
+pub mod Order
+pub mod Counts

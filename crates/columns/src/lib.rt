@@ -1,0 +1,233 @@
+// Sets of columns, by value, and their listing order: by size, then by number.
+// Relies on nothing. Called by every crate that speaks of left sides.
+ghost use Prim.Native.Nat.{ℕ, suc, _≤_, _<_, _^_};
+ghost use mathlib.Core.Path.{_≡_};
+ghost use lib.ListN.{getD, length};
+ghost use Rattle.columns.specs.Bound.{columnBound};
+ghost use Rattle.columns.specs.Set.{bit, memberOf, sizeOf, withoutOf, withinOf, fullOf};
+ghost use Rattle.columns.specs.Order.{precedesOf, nextOf, atOf, ofSize, count};
+ghost use Rattle.columns.specs.Counts.{Counts};
+
+// The bound on visible columns; `columnBound` of specs/Bound.antt is the same number in the definitions.
+pub const COLUMN_BOUND: u32 = 16;
+
+// How many sizes a set can have.
+const SIZES: usize = COLUMN_BOUND as usize + 1;
+
+// Column k is a member if bit k is 1.
+pub struct ColumnSet {
+    pub bits: u32,
+}
+
+// A set, or 'none'.
+pub enum SetOrNone {
+    Set(ColumnSet),
+    Nothing,
+}
+
+// The number whose one bit is bit k.
+pub fn power(k: u32) -> u32
+    requires { ⌜ k < 32 ⌝ }
+    ensures { λ r. ⌜ r ≡ 2 ^ k ⌝ }
+{
+    1 << k
+}
+
+// Bit k of x.
+fn bit(x: u32, k: u32) -> u32
+    requires { ⌜ k < 32 ⌝ }
+    ensures { λ r. ⌜ r ≡ bit x k ⌝ }
+{
+    (x >> k) % 2
+}
+
+impl ColumnSet {
+    // The empty set.
+    pub const EMPTY: ColumnSet = ColumnSet { bits: 0 };
+
+    // The empty set, with a contract.
+    pub fn empty() -> ColumnSet
+        ensures { λ r. ⌜ r .bits ≡ 0 ⌝ }
+    {
+        ColumnSet::EMPTY
+    }
+
+    // The full set of n columns; 'none' for n over the bound.
+    pub fn full(n: u32) -> SetOrNone
+        ensures { λ r. ⌜ r ≡ fullOf n ⌝ }
+    {
+        if COLUMN_BOUND < n {
+            return SetOrNone::Nothing;
+        }
+        SetOrNone::Set(ColumnSet { bits: power(n) - 1 })
+    }
+
+    // Is column k a member? A column at or above the bound is none.
+    pub fn member(self, k: u32) -> bool
+        ensures { λ r. ⌜ r ≡ memberOf (self .bits) k ⌝ }
+    {
+        if COLUMN_BOUND <= k {
+            return false;
+        }
+        bit(self.bits, k) == 1
+    }
+
+    // How many members.
+    pub fn size(self) -> u32
+        ensures { λ r. ⌜ r ≡ sizeOf (self .bits) ⌝ }
+    {
+        u32::count_ones(self.bits)
+    }
+
+    // The set without column k.
+    pub fn without(self, k: u32) -> ColumnSet
+        ensures { λ r. ⌜ r .bits ≡ withoutOf (self .bits) k ⌝ }
+    {
+        let x = self.bits;
+        if 32 <= k {
+            return ColumnSet { bits: x };
+        }
+        if bit(x, k) == 0 {
+            return ColumnSet { bits: x };
+        }
+        ColumnSet { bits: x - power(k) }
+    }
+
+    // Is every member of this set a member of the other?
+    pub fn within(self, other: ColumnSet) -> bool
+        ensures { λ r. ⌜ r ≡ withinOf (self .bits) (other .bits) ⌝ }
+    {
+        let x = self.bits;
+        let y = other.bits;
+        x & y == x
+    }
+
+    // Does this set stand before the other in listing order?
+    pub fn precedes(self, other: ColumnSet) -> bool
+        ensures { λ r. ⌜ r ≡ precedesOf (self .bits) (other .bits) ⌝ }
+    {
+        let x = self.bits;
+        let y = other.bits;
+        let s = u32::count_ones(x);
+        let t = u32::count_ones(y);
+        if s < t {
+            return true;
+        }
+        if s != t {
+            return false;
+        }
+        x < y
+    }
+
+    // The next set of n columns in listing order: 'none' after the full set, for a set with a member at or above n,
+    // and for n over the bound. The highest one of the lowest run of ones moves up by a bit, and the others of that
+    // run go down to the end. Where no bit is free above, the next size begins.
+    pub fn next(self, n: u32) -> SetOrNone
+        ensures { λ r. ⌜ r ≡ nextOf n (self .bits) ⌝ }
+    {
+        if COLUMN_BOUND < n {
+            return SetOrNone::Nothing;
+        }
+        let x = self.bits;
+        let end = power(n);
+        if end <= x {
+            return SetOrNone::Nothing;
+        }
+        let s = u32::count_ones(x);
+        if 0 < x {
+            let r = x + power(u32::trailing_zeros(x));
+            if r < end {
+                let low = power(s - u32::count_ones(r)) - 1;
+                return SetOrNone::Set(ColumnSet { bits: r + low });
+            }
+        }
+        if s < n {
+            return SetOrNone::Set(ColumnSet {
+                bits: power(s + 1) - 1,
+            });
+        }
+        SetOrNone::Nothing
+    }
+
+    // The set at an index of the listing order of n columns: 'none' at or past 2^n, and for n over the bound.
+    // It passes whole sizes, then looks inside one.
+    pub fn at(n: u32, index: u32) -> SetOrNone
+        ensures { λ r. ⌜ r ≡ atOf n index ⌝ }
+    {
+        if COLUMN_BOUND < n {
+            return SetOrNone::Nothing;
+        }
+        let mut k = 0;
+        let mut left = index;
+        while k <= n {
+            let c = count(n, k);
+            if left < c {
+                return SetOrNone::Set(ColumnSet {
+                    bits: of_size_at(n, k, left),
+                });
+            }
+            left -= c;
+            k += 1;
+        }
+        SetOrNone::Nothing
+    }
+}
+
+// The set at an index of the sets of n columns with k members: first stand those without the last column, then those
+// with it.
+fn of_size_at(n: u32, k: u32, index: u32) -> u32
+    requires { ⌜ (n ≤ columnBound) × (index < count n k) ⌝ }
+    ensures { λ r. ⌜ r ≡ getD (ofSize n k) index 0 ⌝ }
+{
+    if n == 0 {
+        return 0;
+    }
+    let m = n - 1;
+    let c = count(m, k);
+    if index < c {
+        return of_size_at(m, k, index);
+    }
+    of_size_at(m, k - 1, index - c) + power(m)
+}
+
+// How many sets of n columns have k members.
+fn count(n: u32, k: u32) -> u32
+    requires { ⌜ n ≤ columnBound ⌝ }
+    ensures { λ r. ⌜ r ≡ count n k ⌝ }
+{
+    if n < k {
+        return 0;
+    }
+    let row = counts(n);
+    row[k as usize]
+}
+
+// How many sets of n columns there are of each size: a row of Pascal's numbers.
+fn counts(n: u32) -> [u32; SIZES]
+    requires { ⌜ n ≤ columnBound ⌝ }
+    ensures { λ r. ⌜ Counts n r ⌝ }
+{
+    let mut row = [0; SIZES];
+    row[0] = 1;
+    let mut i = 0;
+    while i < n {
+        row = with_a_column(row, i);
+        i += 1;
+    }
+    row
+}
+
+// From the row of n columns to the row of n + 1: to the sets of a size without the new column come those of one size
+// less, with it.
+fn with_a_column(before: [u32; SIZES], n: u32) -> [u32; SIZES]
+    requires { ⌜ (n < columnBound) × Counts n before ⌝ }
+    ensures { λ r. ⌜ Counts (suc n) r ⌝ }
+{
+    let mut row = before;
+    let mut k = SIZES - 1;
+    while 0 < k {
+        row[k] = row[k] + row[k - 1];
+        k -= 1;
+    }
+    row
+}

@@ -1,0 +1,47 @@
+// Numbers in a file, unsigned and little-endian, read at any position: a byte past the end reads as 0, so nothing is asked of a caller.
+// Relies on the definitions of `model`. Called by `catalogue` and `packed`.
+ghost use mathlib.Core.Path.{_≡_};
+ghost use Rattle.model.specs.Bytes.{byteAt, u16At, u32At};
+
+// The byte at i.
+pub fn byte_at(b: &[u8], i: usize) -> u8
+    ensures { λ r. ⌜ r ≡ byteAt (now (b .entry)) i ⌝ }
+{
+    if i < b.len() {
+        return b[i];
+    }
+    0
+}
+
+// A byte as a wider number.
+fn wide(x: u8) -> u32
+    ensures { λ r. ⌜ r ≡ x ⌝ }
+{
+    x as u32
+}
+
+// The 2-byte number at i.
+pub fn u16_at(b: &[u8], i: usize) -> u16
+    ensures { λ r. ⌜ r ≡ u16At (now (b .entry)) i ⌝ }
+{
+    if b.len() <= i {
+        return 0;
+    }
+    let low = byte_at(b, i) as u16;
+    let high = byte_at(b, i + 1) as u16;
+    low + 256 * high
+}
+
+// The 4-byte number at i.
+pub fn u32_at(b: &[u8], i: usize) -> u32
+    ensures { λ r. ⌜ r ≡ u32At (now (b .entry)) i ⌝ }
+{
+    if b.len() <= i {
+        return 0;
+    }
+    let b0 = wide(byte_at(b, i));
+    let b1 = wide(byte_at(b, i + 1));
+    let b2 = wide(byte_at(b, i + 2));
+    let b3 = wide(byte_at(b, i + 3));
+    b0 + 256 * b1 + 65536 * b2 + 16777216 * b3
+}

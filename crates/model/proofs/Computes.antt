@@ -1,0 +1,19 @@
+-- For proofs by computation on a file's bytes: `unfolding computes` opens every definition that such a proof computes with.
+use lib.Count.{ones, onesIn}
+use Rattle.columns.specs.Test.{ifEq, ifLt, ifLe}
+use Rattle.columns.specs.Set.{withoutOf}
+use Rattle.columns.specs.Order.{inOrder, bySizeFrom, ofSize, ofSizeFrom}
+use Rattle.model.specs.Bytes.{u16At, u32At, bytes2, bytes4}
+use Rattle.model.specs.Refusal.{orElse, firstOf}
+use Rattle.model.specs.Reply.{replyOf}
+use Rattle.model.specs.Catalogue.{tables, trailer, tableAt, columns, parent, rows, rowAt, parentRow, cell, tableEnd, visible, visibleIn, inherited, sets, setsFrom}
+use Rattle.model.specs.Check.{checkCode, checkMeaning, sizeCode, trailerCode, startOf, headCode, boundCode, parentCode, widthCode, extentCode, rowCode, tableCode, leftCode}
+use Rattle.model.specs.View.{holds, minimal, allBelow, agreeOn}
+use Rattle.model.specs.Target.{owner, ownerIn, ancestor, ancestorIn, cellsAgree, agreeAt, numbers, rightsOf}
+use Rattle.model.specs.Listing.{cells, cellsFrom, cellsOf, entriesOf}
+use Rattle.model.specs.Album.{headOf, codesOf, rowOf, trailerOf, album, noRows, oneMissing, bothMissing, equalRows}
+use Rattle.model.specs.Damaged.{groundsFrom, notZero, grounds, cut, noTable, children, offsetsFrom, manyTables, longTrailer, lateTable, shortHead, shortRow, leftByte, manyColumns, manyRows, rootedRoot, ownParent, tooWide, rootedRow, strayRow}
+
+unfoldable pub computes : Unit {0}
+unfolding ones onesIn ifEq ifLt ifLe withoutOf inOrder bySizeFrom ofSize ofSizeFrom u16At u32At bytes2 bytes4 orElse firstOf replyOf tables trailer tableAt columns parent rows rowAt parentRow cell tableEnd visible visibleIn inherited sets setsFrom checkCode checkMeaning sizeCode trailerCode startOf headCode boundCode parentCode widthCode extentCode rowCode tableCode leftCode holds minimal allBelow agreeOn owner ownerIn ancestor ancestorIn cellsAgree agreeAt numbers rightsOf cells cellsFrom cellsOf entriesOf headOf codesOf rowOf trailerOf album noRows oneMissing bothMissing equalRows groundsFrom notZero grounds cut noTable children offsetsFrom manyTables longTrailer lateTable shortHead shortRow leftByte manyColumns manyRows rootedRoot ownParent tooWide rootedRow strayRow
+computes = tt

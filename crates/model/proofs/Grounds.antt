@@ -1,0 +1,80 @@
+-- Laws of grounds tried in order: there is none exactly if there is none at each step.
+use Prim.Native.Nat.{ℕ, zero, suc, _+_, _≤_, _<_}
+use mathlib.Core.Path.{_≡_, refl, sym, subst, _∙_}
+use native.Mathlib.Nat.{not-suc-le-zero}
+use native.Mathlib.Decide.{ℕ-discrete, decLt}
+use native.Mathlib.Omega.{arith}
+use Rattle.columns.specs.Test.{ifEq, ifLt, ifLe}
+use Rattle.columns.proofs.Test.{ifEq-yes, ifEq-no, ifLt-yes, ifLt-no, ifLe-no}
+use Rattle.model.specs.Refusal.{orElse, firstOf}
+
+-- two grounds: the second counts where the first is none, and otherwise the first
+pub orElse-next : {a : ℕ} (b : ℕ) → a ≡ 0 → orElse a b ≡ b
+unfolding orElse
+orElse-next {a} b e = ifEq-yes a e
+
+pub orElse-first : {a : ℕ} (b : ℕ) → (a ≡ 0 → ⊥) → orElse a b ≡ a
+unfolding orElse
+orElse-first b n = ifEq-no b n
+
+pub orElse-none : {a b : ℕ} → a ≡ 0 → b ≡ 0 → orElse a b ≡ 0
+orElse-none {a} {b} p q = orElse-next b p ∙ q
+
+pub orElse-left : (a b : ℕ) → orElse a b ≡ 0 → a ≡ 0
+orElse-left a b e = at (ℕ-discrete a 0)
+  where
+    at : Dec (a ≡ 0) → a ≡ 0
+    at (yes z) = z
+    at (no n) = sym (orElse-first b n) ∙ e
+
+pub orElse-right : (a b : ℕ) → orElse a b ≡ 0 → b ≡ 0
+orElse-right a b e = sym (orElse-next b (orElse-left a b e)) ∙ e
+
+-- a row of grounds
+pub firstOf-none : (n i : ℕ) (f : ℕ → ℕ) → ((k : ℕ) → k < n → f (i + k) ≡ 0) → firstOf n i f ≡ 0
+unfolding firstOf
+firstOf-none zero i f h = refl
+firstOf-none (suc n) i f h =
+    orElse-none (subst (λ (j : ℕ). f j ≡ 0) (omega arith) (h 0 (omega arith)))
+    (firstOf-none n (suc i) f (λ k l. subst (λ (j : ℕ). f j ≡ 0) (omega arith) (h (suc k) (omega arith))))
+
+pub firstOf-each : (n i : ℕ) (f : ℕ → ℕ) → firstOf n i f ≡ 0 → (k : ℕ) → k < n → f (i + k) ≡ 0
+unfolding firstOf
+firstOf-each zero i f e k l = absurd (not-suc-le-zero l)
+firstOf-each (suc n) i f e zero l =
+    subst (λ (j : ℕ). f j ≡ 0) (omega arith) (orElse-left (f i) (firstOf n (suc i) f) e)
+firstOf-each (suc n) i f e (suc k) l =
+    subst (λ (j : ℕ). f j ≡ 0) (omega arith)
+    (firstOf-each n (suc i) f (orElse-right (f i) (firstOf n (suc i) f) e) k (omega arith))
+
+-- one ground: a test between 0 and a number that is not 0
+pub ifEq-passes : (a b x n : ℕ) → (n ≡ 0 → ⊥) → ifEq a b x n ≡ 0 → a ≡ b
+ifEq-passes a b x n p e = at (ℕ-discrete a b)
+  where
+    at : Dec (a ≡ b) → a ≡ b
+    at (yes q) = q
+    at (no q) = absurd (p (sym (ifEq-no x q) ∙ e))
+
+pub ifEq-fails : (a b x n : ℕ) → (n ≡ 0 → ⊥) → ifEq a b n x ≡ 0 → a ≡ b → ⊥
+ifEq-fails a b x n p e q = p (sym (ifEq-yes x q) ∙ e)
+
+pub ifLt-passes : (a b x n : ℕ) → (n ≡ 0 → ⊥) → ifLt a b x n ≡ 0 → a < b
+ifLt-passes a b x n p e = at (decLt a b)
+  where
+    at : Dec (a < b) → a < b
+    at (yes q) = q
+    at (no q) = absurd (p (sym (ifLt-no x (omega arith)) ∙ e))
+
+pub ifLt-fails : (a b x n : ℕ) → (n ≡ 0 → ⊥) → ifLt a b n x ≡ 0 → b ≤ a
+ifLt-fails a b x n p e = at (decLt a b)
+  where
+    at : Dec (a < b) → b ≤ a
+    at (yes q) = absurd (p (sym (ifLt-yes x q) ∙ e))
+    at (no q) = omega arith
+
+pub ifLe-passes : (a b x n : ℕ) → (n ≡ 0 → ⊥) → ifLe a b x n ≡ 0 → a ≤ b
+ifLe-passes a b x n p e = at (decLt b a)
+  where
+    at : Dec (b < a) → a ≤ b
+    at (yes q) = absurd (p (sym (ifLe-no x q) ∙ e))
+    at (no q) = omega arith

@@ -1,0 +1,61 @@
+-- The album catalogue of document 01, and the small catalogues of its cases K6 to K9, as bytes.
+use Prim.Native.Nat.{ℕ}
+use mathlib.Core.List.{List, [], _∷_, _++_}
+use Rattle.model.specs.Bounds.{noParent, missing}
+use Rattle.model.specs.Bytes.{bytes2, bytes4}
+
+-- a table's first 6 bytes: columns, parent table, rows
+unfoldable pub headOf : ℕ → ℕ → ℕ → List ℕ
+headOf columns parent rows = bytes2 columns ++ bytes2 parent ++ bytes2 rows
+
+-- a row: its parent row and its codes
+unfoldable pub codesOf : List ℕ → List ℕ
+codesOf [] = []
+codesOf (c ∷ cs) = bytes4 c ++ codesOf cs
+
+unfoldable pub rowOf : ℕ → List ℕ → List ℕ
+rowOf parent codes = bytes2 parent ++ codesOf codes
+
+-- the trailer: the tables' offsets, how many, and its own offset
+unfoldable pub trailerOf : List ℕ → ℕ → ℕ → List ℕ
+trailerOf offsets tables at = codesOf offsets ++ bytes2 tables ++ bytes4 at
+
+-- table 0 has one column and the rows 5, 5, missing; table 1 has parent 0, two columns and four rows. 84 bytes
+unfoldable pub album : List ℕ
+album =
+    headOf 1 noParent 3
+    ++ rowOf noParent (5 ∷ [])
+    ++ rowOf noParent (5 ∷ [])
+    ++ rowOf noParent (missing ∷ [])
+    ++ headOf 2 0 4
+    ++ rowOf 0 (1 ∷ 7 ∷ [])
+    ++ rowOf 1 (3 ∷ 7 ∷ [])
+    ++ rowOf 2 (1 ∷ 8 ∷ [])
+    ++ rowOf 2 (2 ∷ 8 ∷ [])
+    ++ trailerOf (0 ∷ 24 ∷ []) 2 70
+
+-- K6: one column and no rows
+unfoldable pub noRows : List ℕ
+noRows = headOf 1 noParent 0 ++ trailerOf (0 ∷ []) 1 6
+
+-- K7: one column and one row, whose cell is missing
+unfoldable pub oneMissing : List ℕ
+oneMissing = headOf 1 noParent 1 ++ rowOf noParent (missing ∷ []) ++ trailerOf (0 ∷ []) 1 12
+
+-- K8: one column and two rows, both cells missing
+unfoldable pub bothMissing : List ℕ
+bothMissing =
+    headOf 1 noParent 2
+    ++ rowOf noParent (missing ∷ [])
+    ++ rowOf noParent (missing ∷ [])
+    ++ trailerOf (0 ∷ []) 1 18
+
+-- K9: a root with one row, and under it a table with two equal rows; all cells are present
+unfoldable pub equalRows : List ℕ
+equalRows =
+    headOf 1 noParent 1
+    ++ rowOf noParent (5 ∷ [])
+    ++ headOf 1 0 2
+    ++ rowOf 0 (7 ∷ [])
+    ++ rowOf 0 (7 ∷ [])
+    ++ trailerOf (0 ∷ 12 ∷ []) 2 30

@@ -1,0 +1,54 @@
+-- The proved cases of document 01, K1 to K11, as one table, with what it says of the album. Left sides are numbers: {0} is 1, {1} is 2,
+-- {1, 2} is 6.
+use Prim.Native.Nat.{ℕ, _≤_}
+use mathlib.Core.Path.{_≡_}
+use mathlib.Core.List.{[], _∷_, List·Memᴰ}
+use lib.ListN.{length}
+use Rattle.columns.specs.Order.{Precedes, inOrder}
+use Rattle.model.specs.Bounds.{workBound, row}
+use Rattle.model.specs.Reply.{answered}
+use Rattle.model.specs.Catalogue.{visible}
+use Rattle.model.specs.Check.{Accepted, checkMeaning}
+use Rattle.model.specs.View.{Holds, Key, Breaks}
+use Rattle.model.specs.Target.{view}
+use Rattle.model.specs.Entry.{entry}
+use Rattle.model.specs.Listing.{cells, ordinary}
+use Rattle.model.specs.Calls.{flat, Seen}
+use Rattle.model.specs.List.{ListMeaning}
+use Rattle.model.specs.Album.{album, noRows, oneMissing, bothMissing, equalRows}
+use Rattle.model.specs.declared.Entry.{Entry}
+
+pub record Cases : Type 0 where
+  -- K1 table 1, {0} gives 2
+  pub k1 : Holds (view album 1) 1 2
+  -- K2 {1} doesn't give 2, rows 0 and 2 break it
+  pub k2 : (Holds (view album 1) 2 2 → ⊥) × Breaks (view album 1) 2 2 0 2
+  -- K3 {1, 2} gives the row
+  pub k3 : Key (view album 1) 6
+  -- K4 table 0, the empty set doesn't give 0
+  pub k4 : Holds (view album 0) 0 0 → ⊥
+  -- K5 table 0, {0} gives 0, unlisted
+  pub k5 : Holds (view album 0) 1 0 × (List·Memᴰ (entry 0 1 0) (flat (cells (ordinary album))) → ⊥)
+  -- K6 no rows: the empty set gives the row
+  pub k6 : Key (view noRows 0) 0
+  -- K7 one row with a missing cell: the empty set gives its column
+  pub k7 : Holds (view oneMissing 0) 0 0
+  -- K8 two rows, both cells missing: {0} gives the row
+  pub k8 : Key (view bothMissing 0) 1
+  -- K9 two equal rows under one parent, all cells present: no key
+  pub k9 : (x : ℕ) → Key (view equalRows 1) x → ⊥
+  -- K10 table 1, left 4 precedes left 3
+  pub k10 : Precedes 4 3 × (inOrder (visible album 1) ≡ 0 ∷ 1 ∷ 2 ∷ 4 ∷ 3 ∷ 5 ∷ 6 ∷ 7 ∷ [])
+  -- K11 place 10 returns 10 and no entry: whatever the budget and the run, with words enough
+  pub k11 : (s : Seen Entry) → s .place ≡ 10 → workBound ≤ length (s .work) → ListMeaning album s
+      → (s .reply ≡ answered (10 ∷ 0 ∷ 0 ∷ [])) × (s .runThen ≡ s .run)
+  -- the album's file, what its check answers, and its full listing
+  pub albumLength : length album ≡ 84
+  pub albumCheck : checkMeaning album ≡ answered (2 ∷ 10 ∷ [])
+  pub albumListing : flat (cells (ordinary album)) ≡ entry 1 1 2 ∷ entry 1 3 row ∷ entry 1 6 row ∷ []
+  -- every catalogue of the table is accepted
+  pub albumAccepted : Accepted album
+  pub noRowsAccepted : Accepted noRows
+  pub oneMissingAccepted : Accepted oneMissing
+  pub bothMissingAccepted : Accepted bothMissing
+  pub equalRowsAccepted : Accepted equalRows

@@ -1,0 +1,118 @@
+-- Damaged catalogues, one for each ground of the refusals 1 to 7, and all grounds in each: wherever it can be, the one that the file is
+-- refused for is the only one.
+use Prim.Native.Nat.{ℕ, zero, suc, _+_}
+use mathlib.Core.Path.{_≡_}
+use mathlib.Core.List.{List, [], _∷_, _++_}
+use lib.ListN.{take, replicate}
+use Rattle.columns.specs.Test.{ifEq}
+use Rattle.model.specs.Bounds.{noParent}
+use Rattle.model.specs.Bytes.{bytes2, bytes4}
+use Rattle.model.specs.Refusal.{firstOf}
+use Rattle.model.specs.Catalogue.{tables, rows}
+use Rattle.model.specs.Check.{checkCode, sizeCode, trailerCode, headCode, boundCode, parentCode, widthCode, extentCode, rowCode, leftCode}
+use Rattle.model.specs.Album.{headOf, rowOf, trailerOf}
+
+-- every ground in a file, in the order of the check: not only the first
+unfoldable pub groundsFrom : List ℕ → ℕ → ℕ → List ℕ
+groundsFrom b zero i = leftCode b ∷ []
+groundsFrom b (suc n) i =
+    headCode b i ∷ boundCode b i ∷ parentCode b i ∷ widthCode b i ∷ extentCode b i ∷ firstOf (rows b i) 0 (rowCode b i)
+    ∷ groundsFrom b n (suc i)
+
+unfoldable pub notZero : List ℕ → List ℕ
+notZero [] = []
+notZero (c ∷ cs) = ifEq c 0 (notZero cs) (c ∷ notZero cs)
+
+unfoldable pub grounds : List ℕ → List ℕ
+grounds b = notZero (sizeCode b ∷ trailerCode b ∷ groundsFrom b (tables b) 0)
+
+-- the file is refused with a number, and all grounds in it are these
+pub record Refused (b : List ℕ) (n : ℕ) (all : List ℕ) : Type 0 where
+  pub code : checkCode b ≡ n
+  pub alone : grounds b ≡ all
+
+-- the only ground in the file
+abbrev pub Only : List ℕ → ℕ → Type 0
+Only b n = Refused b n (n ∷ [])
+
+-- 1: the smallest file without its last byte
+unfoldable pub cut : List ℕ
+cut = take 15 (headOf 0 noParent 0 ++ trailerOf (0 ∷ []) 1 6)
+
+-- 2: no table; 17 tables without columns and rows; a byte between the offsets and the number of tables
+unfoldable pub noTable : List ℕ
+noTable = headOf 0 noParent 0 ++ bytes4 0 ++ trailerOf [] 0 10
+
+unfoldable pub children : ℕ → List ℕ
+children zero = []
+children (suc n) = headOf 0 0 0 ++ children n
+
+unfoldable pub offsetsFrom : ℕ → ℕ → List ℕ
+offsetsFrom zero i = []
+offsetsFrom (suc n) i = i ∷ offsetsFrom n (i + 6)
+
+unfoldable pub manyTables : List ℕ
+manyTables = headOf 0 noParent 0 ++ children 16 ++ trailerOf (offsetsFrom 17 0) 17 102
+
+unfoldable pub longTrailer : List ℕ
+longTrailer = headOf 0 noParent 0 ++ bytes4 0 ++ (0 ∷ []) ++ bytes2 1 ++ bytes4 6
+
+-- 3: the first table starts at 1; the second table has 4 bytes; a row without its code; a byte after the last table
+unfoldable pub lateTable : List ℕ
+lateTable = (0 ∷ []) ++ headOf 0 noParent 0 ++ trailerOf (1 ∷ []) 1 7
+
+unfoldable pub shortHead : List ℕ
+shortHead = headOf 0 noParent 0 ++ bytes2 0 ++ bytes2 0 ++ trailerOf (0 ∷ 6 ∷ []) 2 10
+
+unfoldable pub shortRow : List ℕ
+shortRow = headOf 1 noParent 1 ++ bytes2 noParent ++ trailerOf (0 ∷ []) 1 8
+
+unfoldable pub leftByte : List ℕ
+leftByte = headOf 0 noParent 0 ++ (0 ∷ []) ++ trailerOf (0 ∷ []) 1 7
+
+-- 4: 17 columns; 4,097 rows, all there
+unfoldable pub manyColumns : List ℕ
+manyColumns = headOf 17 noParent 0 ++ trailerOf (0 ∷ []) 1 6
+
+unfoldable pub manyRows : List ℕ
+manyRows = headOf 0 noParent 4097 ++ (replicate 8194 255 ++ trailerOf (0 ∷ []) 1 8200)
+
+-- 5: the root has a parent table; a table is its own parent
+unfoldable pub rootedRoot : List ℕ
+rootedRoot = headOf 0 0 0 ++ trailerOf (0 ∷ []) 1 6
+
+unfoldable pub ownParent : List ℕ
+ownParent = headOf 0 noParent 0 ++ headOf 0 1 0 ++ trailerOf (0 ∷ 6 ∷ []) 2 12
+
+-- 6: 16 columns, and one more in a table below
+unfoldable pub tooWide : List ℕ
+tooWide = headOf 16 noParent 0 ++ headOf 1 0 0 ++ trailerOf (0 ∷ 6 ∷ []) 2 12
+
+-- 7: a root row has a parent row; a row's parent is not below the parent table's rows
+unfoldable pub rootedRow : List ℕ
+rootedRow = headOf 0 noParent 1 ++ rowOf 0 [] ++ trailerOf (0 ∷ []) 1 8
+
+unfoldable pub strayRow : List ℕ
+strayRow = headOf 0 noParent 0 ++ headOf 0 0 1 ++ rowOf 0 [] ++ trailerOf (0 ∷ 6 ∷ []) 2 14
+
+pub record Damages : Type 0 where
+  -- no file under 16 bytes has a sound trailer and a whole table before it, so it has other faults too
+  pub torn : checkCode cut ≡ 1
+  -- with no table, the end of the last table is no place in the file, so 'left bytes' fails too
+  pub noTail : checkCode noTable ≡ 2
+  pub noTailMany : Only manyTables 2
+  pub noTailLength : Only longTrailer 2
+  pub misplacedOffset : Only lateTable 3
+  -- where the 6 bytes pass the trailer, so do the rows, and the end of the last table is not the trailer's first byte: all three are 3
+  pub misplacedHead : Refused shortHead 3 (3 ∷ 3 ∷ 3 ∷ [])
+  -- and where the rows pass it, the end of the last table is not the trailer's first byte
+  pub misplacedRows : Refused shortRow 3 (3 ∷ 3 ∷ [])
+  pub misplacedLeft : Only leftByte 3
+  -- a table's own columns are visible, so 17 of them are too many for 6 as well
+  pub oversizeColumns : Refused manyColumns 4 (4 ∷ 6 ∷ [])
+  pub oversizeRows : Only manyRows 4
+  pub noStemRoot : Only rootedRoot 5
+  pub noStem : Only ownParent 5
+  pub wide : Only tooWide 6
+  pub strayRoot : Only rootedRow 7
+  pub stray : Only strayRow 7

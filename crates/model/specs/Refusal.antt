@@ -1,0 +1,33 @@
+-- The refusals and their numbers ("Feeder desk codes"), and how grounds are tried in order: 0 says that there is none.
+use Prim.Native.Nat.{ℕ, zero, suc}
+use Rattle.columns.specs.Test.{ifEq}
+use Rattle.model.specs.declared.Refusal.{Refusal}
+use Rattle.model.specs.declared.Refusal.the-variants.{FileTooShort, BadTrailer, BadExtent, TableTooLarge, BadParentTable, TooManyVisible, BadParentRow, UnknownTable, UnknownColumn, UnknownRight, TooFewWords, PastTheEnd, RunTooShort, NoList, BadEntry, OutputTooShort}
+
+-- the document's number for each refusal, with its word
+abbrev pub number : Refusal → ℕ
+number FileTooShort = 1  -- torn
+number BadTrailer = 2  -- no tail
+number BadExtent = 3  -- misplaced
+number TableTooLarge = 4  -- oversize
+number BadParentTable = 5  -- no stem
+number TooManyVisible = 6  -- too wide
+number BadParentRow = 7  -- stray row
+number UnknownTable = 8  -- unknown table
+number UnknownColumn = 9  -- unknown column
+number UnknownRight = 10  -- unknown right
+number TooFewWords = 11  -- small bench
+number PastTheEnd = 12  -- past the end
+number RunTooShort = 13  -- tray full
+number NoList = 14  -- no list
+number BadEntry = 15  -- bad entry
+number OutputTooShort = 16  -- short sheet
+
+-- the first ground of two
+unfoldable pub orElse : ℕ → ℕ → ℕ
+orElse a b = ifEq a 0 b a
+
+-- the first ground among f i, f (i + 1) and on, n in all
+unfoldable pub firstOf : ℕ → ℕ → (ℕ → ℕ) → ℕ
+firstOf zero i f = 0
+firstOf (suc n) i f = orElse (f i) (firstOf n (suc i) f)

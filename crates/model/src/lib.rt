@@ -1,0 +1,84 @@
+// What a reader must believe: the declared types of every public call and, in specs/, the definitions of the catalogue, of agreement,
+// dependencies and keys, of the full listing and its calls, and of the packed list. The laws about them stand in proofs/.
+// Relies on `columns` for sets of columns and their order. Every other crate cites it.
+
+// The bounds, once in code; specs/Bounds.antt has the same numbers in the definitions. The bound on columns is `columns::COLUMN_BOUND`.
+pub const TABLE_BOUND: u32 = 16;
+
+pub const ROW_BOUND: u32 = 4096;
+
+pub const WORK_BOUND: usize = 16384;
+
+// The right side that stands for the row itself.
+pub const ROW: u32 = 255;
+
+// An entry of a listing: in the target table, the left side gives the right side.
+pub struct Entry {
+    pub target: u8,
+    pub right: u8,
+    pub left: u16,
+}
+
+// Why a call is refused; `number` of specs/Refusal.antt gives each its number.
+pub enum Refusal {
+    FileTooShort,
+    BadTrailer,
+    BadExtent,
+    TableTooLarge,
+    BadParentTable,
+    TooManyVisible,
+    BadParentRow,
+    UnknownTable,
+    UnknownColumn,
+    UnknownRight,
+    TooFewWords,
+    PastTheEnd,
+    RunTooShort,
+    NoList,
+    BadEntry,
+    OutputTooShort,
+}
+
+// What checking a catalogue answers: how many tables, and how many sets over all targets.
+pub enum CheckAnswer {
+    Sound { tables: u32, sets: u32 },
+    Refused(Refusal),
+}
+
+// Does the dependency hold?
+pub enum AskAnswer {
+    Holds,
+    Breaks,
+    Refused(Refusal),
+}
+
+// Two rows that break the dependency, the lower first, or 'none'.
+pub enum PairAnswer {
+    Rows { first: u32, second: u32 },
+    Nothing,
+    Refused(Refusal),
+}
+
+// What a listing call answers: the next place, how many sets it passed and how many entries it wrote.
+pub enum ListAnswer {
+    Listed { place: u32, passed: u32, count: u32 },
+    Refused(Refusal),
+}
+
+// How many bytes packing wrote.
+pub enum PackAnswer {
+    Packed { bytes: usize },
+    Refused(Refusal),
+}
+
+// Whether a packed list may be read: how many entries it has, and how many bytes stand in front of it.
+pub enum OpenAnswer {
+    Opened { entries: u32, front: usize },
+    Refused(Refusal),
+}
+
+// The next entry of a packed list, or 'end'.
+pub enum ReadAnswer {
+    Next(Entry),
+    End,
+}
