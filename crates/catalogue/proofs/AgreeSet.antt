@@ -1,25 +1,23 @@
 -- The agree set of two rows of an accepted catalogue: its bits, and how a climb puts it together, table by table.
-use Prim.Native.Nat.{ℕ, zero, suc, _+_, _-_, _*_, _/_, _%_, _^_, _≤_, _<_}
+use Prim.Native.Nat.{ℕ, zero, suc, _+_, _-_, _*_, _%_, _^_, _≤_, _<_}
 use mathlib.Core.Path.{_≡_, refl, sym, ap, ap₂, subst, _∙_}
 use mathlib.Core.List.{List}
-use mathlib.Core.Bool.{Bool, true, false}
+use mathlib.Core.Bool.{Bool, true}
 use native.Mathlib.Decide.{ℕ-discrete, decLt}
 use native.Mathlib.Omega.{arith}
 use native.Mathlib.Nat.{mul-comm, one-mul, zero-add, mul-le-mul-right, suc-mul, lt-of-lt-of-le}
 use lib.ListN.{length}
 use borrow.Author.Tests.{ne-eqb}
-use lib.Dec.{T, eqb}
-use lib.Pow.{pow-pos, pow-mono, shl-exact}
+use lib.Pow.{pow-mono, shl-exact}
 use Rattle.columns.specs.Bound.{columnBound}
-use Rattle.columns.specs.Set.{bit, withinOf}
+use Rattle.columns.specs.Set.{bit}
 use Rattle.columns.specs.Test.{pick}
-use Rattle.columns.proofs.Bits.{bit-past}
 use Rattle.model.specs.Bounds.{tableBound}
 use Rattle.model.specs.Bytes.{u16At, u32At}
 use Rattle.model.specs.Catalogue
 use Rattle.model.specs.Catalogue.{tables, trailer, tableAt, columns, parent, rows, rowAt, tableEnd, parentRow, cell, visible, visibleIn, inherited}
-use Rattle.model.specs.Target.{owner, ownerIn, ancestor, ancestorIn, cellsAgree, agreeAt, view}
-use Rattle.model.proofs.Truth.{is-true, true-is}
+use Rattle.model.specs.Target.{owner, ownerIn, ancestor, ancestorIn, cellsAgree, agreeAt}
+use Rattle.model.proofs.Truth.{is-true}
 use Rattle.model.proofs.Target.{view-equivalence}
 use Rattle.columns.specs.Set.{setBelow}
 use Rattle.catalogue.specs.AgreeSet.{agreeSet, codesAgree, codeSet}

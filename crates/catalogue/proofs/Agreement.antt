@@ -1,14 +1,13 @@
 -- What the agree set of two rows says of a left side and of a right side: the rows agree on a left side exactly if it is within the set,
 -- and on a column exactly if the column's bit is 1. For any bytes.
-use Prim.Native.Nat.{ℕ, _^_, _≤_, _<_}
+use Prim.Native.Nat.{ℕ, _^_, _<_}
 use mathlib.Core.Path.{_≡_, refl, sym, ap, _∙_}
 use mathlib.Core.Logic.{_↔_}
 use mathlib.Core.List.{List}
 use mathlib.Core.Bool.{Bool, true, false}
 use native.Mathlib.Decide.{decLt}
 use native.Mathlib.Omega.{arith}
-use borrow.Author.Tests.{eqb-true, ne-eqb}
-use lib.Bits.{bitAnd}
+use borrow.Author.Tests.{ne-eqb}
 use lib.Dec.{T, eqb}
 use Rattle.columns.specs.Set.{bit, withinOf}
 use Rattle.columns.specs.Test.{pick}

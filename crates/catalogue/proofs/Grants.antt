@@ -6,7 +6,7 @@ use native.Mathlib.Omega.{arith}
 use lib.ListN.{length}
 use Rattle.columns.specs.Bound.{columnBound}
 use Rattle.model.specs.Bounds.{tableBound, rowBound}
-use Rattle.model.specs.Catalogue.{tables, trailer, columns, parent, rows, parentRow, tableEnd, visible}
+use Rattle.model.specs.Catalogue.{tables, trailer, parent, rows, parentRow, tableEnd, visible}
 use Rattle.model.specs.Check.{Accepted}
 use Rattle.model.proofs.Check.{accepted-tables, accepted-trailer, accepted-rows, accepted-parent, accepted-visible, accepted-end, accepted-row}
 

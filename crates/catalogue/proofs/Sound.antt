@@ -1,48 +1,20 @@
 -- How many sets a target of an accepted catalogue has at most, and that a code of the check is the number of a refusal.
-use Prim.Native.Nat.{ℕ, zero, suc, _^_, _≤_, _<_}
+use Prim.Native.Nat.{ℕ, _^_, _≤_, _<_}
 use mathlib.Core.List.{List}
-use mathlib.Core.Bool.{Bool, true, false}
-use native.Mathlib.Omega.{arith}
-use lib.Dec.{ltb, leb, eqb, lit≤}
+use lib.Dec.{lit≤}
 use lib.Pow.{pow-mono}
 use Rattle.columns.specs.Bound.{columnBound}
-use Rattle.columns.specs.Test.{pick, ifEq, ifLt, ifLe}
-use Rattle.model.specs.Refusal.{number, orElse, firstOf}
+use Rattle.model.specs.Refusal.{number}
 use Rattle.model.specs.declared.Refusal.the-variants.{BadParentRow}
 use Rattle.model.specs.Catalogue.{tables, rows, visible}
 use Rattle.model.specs.Check.{sizeCode, trailerCode, headCode, boundCode, parentCode, widthCode, extentCode}
 use Rattle.model.specs.Check.{rowCode, tableCode, leftCode, checkCode, Accepted}
+use Rattle.model.proofs.Grounds.{ifEq-le, ifLt-le, ifLe-le, orElse-le, firstOf-le}
 use Rattle.model.proofs.Check.{accepted-visible}
 
 -- a target has as many sets as the bound on columns allows, at most
 pub accepted-sets : (b : List ℕ) → Accepted b → (i : ℕ) → i < tables b → 2 ^ visible b i ≤ 2 ^ columnBound
 accepted-sets b e i h = pow-mono (accepted-visible b e i h)
-
--- a bound on both values of a test is a bound on its value, and so for the first of two grounds and of a row of them
-pick-le : (t : Bool) {m x y : ℕ} → x ≤ m → y ≤ m → pick t x y ≤ m
-pick-le true p q = p
-pick-le false p q = q
-
-ifEq-le : (a b : ℕ) {m x y : ℕ} → x ≤ m → y ≤ m → ifEq a b x y ≤ m
-unfolding ifEq
-ifEq-le a b p q = pick-le (eqb a b) p q
-
-ifLt-le : (a b : ℕ) {m x y : ℕ} → x ≤ m → y ≤ m → ifLt a b x y ≤ m
-unfolding ifLt
-ifLt-le a b p q = pick-le (ltb a b) p q
-
-ifLe-le : (a b : ℕ) {m x y : ℕ} → x ≤ m → y ≤ m → ifLe a b x y ≤ m
-unfolding ifLe
-ifLe-le a b p q = pick-le (leb a b) p q
-
-orElse-le : {m x y : ℕ} → x ≤ m → y ≤ m → orElse x y ≤ m
-unfolding orElse
-orElse-le {x} p q = ifEq-le x 0 q p
-
-firstOf-le : (n i : ℕ) (f : ℕ → ℕ) {m : ℕ} → ((k : ℕ) → f k ≤ m) → firstOf n i f ≤ m
-unfolding firstOf
-firstOf-le zero i f h = omega arith
-firstOf-le (suc n) i f h = orElse-le (h i) (firstOf-le n (suc i) f h)
 
 table-code-le : (b : List ℕ) (i : ℕ) → tableCode b i ≤ number BadParentRow
 unfolding tableCode headCode boundCode parentCode widthCode extentCode rowCode

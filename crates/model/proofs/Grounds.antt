@@ -4,7 +4,9 @@ use mathlib.Core.Path.{_≡_, refl, sym, subst, _∙_}
 use native.Mathlib.Nat.{not-suc-le-zero}
 use native.Mathlib.Decide.{ℕ-discrete, decLt}
 use native.Mathlib.Omega.{arith}
-use Rattle.columns.specs.Test.{ifEq, ifLt, ifLe}
+use mathlib.Core.Bool.{Bool, true, false}
+use lib.Dec.{ltb, leb, eqb}
+use Rattle.columns.specs.Test.{pick, ifEq, ifLt, ifLe}
 use Rattle.columns.proofs.Test.{ifEq-yes, ifEq-no, ifLt-yes, ifLt-no, ifLe-no}
 use Rattle.model.specs.Refusal.{orElse, firstOf}
 
@@ -78,3 +80,29 @@ ifLe-passes a b x n p e = at (decLt b a)
     at : Dec (b < a) → a ≤ b
     at (yes q) = absurd (p (sym (ifLe-no x q) ∙ e))
     at (no q) = omega arith
+
+-- a bound on both values of a test is a bound on its value, and so for the first of two grounds and of a row of them
+pick-le : (t : Bool) {m x y : ℕ} → x ≤ m → y ≤ m → pick t x y ≤ m
+pick-le true p q = p
+pick-le false p q = q
+
+pub ifEq-le : (a b : ℕ) {m x y : ℕ} → x ≤ m → y ≤ m → ifEq a b x y ≤ m
+unfolding ifEq
+ifEq-le a b p q = pick-le (eqb a b) p q
+
+pub ifLt-le : (a b : ℕ) {m x y : ℕ} → x ≤ m → y ≤ m → ifLt a b x y ≤ m
+unfolding ifLt
+ifLt-le a b p q = pick-le (ltb a b) p q
+
+pub ifLe-le : (a b : ℕ) {m x y : ℕ} → x ≤ m → y ≤ m → ifLe a b x y ≤ m
+unfolding ifLe
+ifLe-le a b p q = pick-le (leb a b) p q
+
+pub orElse-le : {m x y : ℕ} → x ≤ m → y ≤ m → orElse x y ≤ m
+unfolding orElse
+orElse-le {x} p q = ifEq-le x 0 q p
+
+pub firstOf-le : (n i : ℕ) (f : ℕ → ℕ) {m : ℕ} → ((k : ℕ) → f k ≤ m) → firstOf n i f ≤ m
+unfolding firstOf
+firstOf-le zero i f h = omega arith
+firstOf-le (suc n) i f h = orElse-le (h i) (firstOf-le n (suc i) f h)

@@ -13,16 +13,10 @@ use Rattle.model.specs.Catalogue.{tableAt, parent, parentRow, inherited}
 use Rattle.model.specs.Target.{agreeAt}
 use Rattle.columns.specs.Set.{setBelow}
 use Rattle.catalogue.specs.AgreeSet.{agreeSet, codeSet}
-use Rattle.catalogue.proofs.Grants.{Grants, accepted-grants}
+use Rattle.catalogue.proofs.Grants.{accepted-grants}
 use Rattle.catalogue.proofs.AgreeSet.{Climbing, climb-begun, own-left, few-left, agreeSet-small, shifted-one, climb-met, climb-gathered, climb-top, climb-next, Here, climb-here, entry-within, head-within}
 use Rattle.catalogue.proofs.agree.agree_set_of.Statement.{statement}
 use Rattle.catalogue.proofs.agree.agree_set_of.Tie as tie
-use Rattle.catalogue.proofs.agree.agree_set_of.Reads as reads
-use Rattle.catalogue.proofs.agree.agree_set_of.Lts as lts
-use Rattle.catalogue.proofs.agree.code_at.Reads as code-at-reads
-use Rattle.catalogue.proofs.agree.code_set.Reads as code-set-reads
-use Rattle.catalogue.proofs.agree.short_at.Reads as short-at-reads
-use Rattle.catalogue.proofs.place.trailer.Reads as trailer-reads
 
 moved : {b : List ℕ} {i p q set at at' x x' y y' above : ℕ} → (at' ≡ at) × (x' ≡ x) × (y' ≡ y)
     → Climbing b i p q set at x y above → Climbing b i p q set at' x' y' above
@@ -148,7 +142,8 @@ gathered c =
     let s = accepted-grants b (c .before .before .before .before .before .before .before .pre .0) in
     let n = c .before .short-at .result in
     let h = here (c .before) in
-    climb-gathered b s (c .before .before .before .before .loop .inv) n (c .code-set .result) (c .before .before .before .loop-test .taken) (h .columns)
+    climb-gathered b s (c .before .before .before .before .loop .inv) n (c .code-set .result)
+    (c .before .before .before .loop-test .taken) (h .columns)
     (c .code-set .ensures ∙ ap₂ (λ (u v : ℕ). codeSet b (u + 2) (v + 2) n) (h .one) (h .other))
 
 cast-set : tie.Need-cast-set Inv-loop μ-loop
@@ -168,7 +163,8 @@ add-set c =
     let b = now (c .before .before .before .before .before .before .before .args .b) in
     let s = accepted-grants b (c .before .before .before .before .before .before .before .pre .0) in
     let a = c .before .before .before .before .before .before .before .args in
-    omega (arith, gathered c, agreeSet-small b s (a .i) (a .p) (a .q) (c .before .before .before .before .before .before .before .pre .1 .0))
+    let t = c .before .before .before .before .before .before .before .pre .1 .0 in
+    omega (arith, gathered c, agreeSet-small b s (a .i) (a .p) (a .q) t)
 
 returns : tie.Need-returns Inv-loop μ-loop
 returns c =
@@ -215,7 +211,9 @@ loop-again c =
     let b = now (c .before .before .before .before .before .before .before .before .before .before .before .args .b) in
     let s = accepted-grants b (c .before .before .before .before .before .before .before .before .before .before .before .pre .0) in
     let h = here (c .before .before .before .before .before) in
-    moved (climbed c) (climb-next b s (c .before .before .before .before .before .before .before .before .loop .inv) _ _ (c .before .before .before .if1 .left) (h .columns) (gathered (c .before .before .before .before)))
+    moved (climbed c)
+    (climb-next b s (c .before .before .before .before .before .before .before .before .loop .inv) _ _
+    (c .before .before .before .if1 .left) (h .columns) (gathered (c .before .before .before .before)))
 
 cast-result : tie.Need-cast-result Inv-loop μ-loop
 cast-result c =

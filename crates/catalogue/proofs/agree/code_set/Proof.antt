@@ -4,11 +4,9 @@ use mathlib.Core.Path.{_≡_, _∙_}
 use mathlib.Core.List.{List}
 use mathlib.Core.Bool.{Bool}
 use native.Mathlib.Omega.{arith}
-use borrow.Author.Needs.{needs}
 use denote.Ref.{now}
 use Rattle.columns.specs.Bound.{columnBound}
 use Rattle.model.specs.Bytes.{u32At}
-use Rattle.columns.specs.Set.{setBelow}
 use Rattle.catalogue.specs.AgreeSet.{codesAgree, codeSet}
 use Rattle.columns.proofs.SetBelow.{setFrom, setFrom-none, setFrom-more, setFrom-all, setFrom-lt}
 use Rattle.catalogue.proofs.agree.code_set.Statement.{statement}

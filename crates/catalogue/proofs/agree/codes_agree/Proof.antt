@@ -1,7 +1,4 @@
 -- `catalogue::codes_agree` meets its contract.
-use mathlib.Core.Path.{sym}
-use mathlib.Core.Bool.{Bool, not, _&&_}
-use lib.Dec.{eqb}
 use borrow.Author.Tests.{eq-eqb, ne-eqb}
 use Rattle.catalogue.specs.AgreeSet.{codesAgree}
 use Rattle.catalogue.proofs.agree.codes_agree.Statement.{statement}

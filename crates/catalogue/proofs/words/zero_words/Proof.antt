@@ -11,8 +11,6 @@ use lib.ListN.{length, drop, replicate, length-set}
 use lib.Seq.{drop-length}
 use Rattle.catalogue.proofs.words.zero_words.Statement.{statement}
 use Rattle.catalogue.proofs.words.zero_words.Tie as tie
-use Rattle.catalogue.proofs.words.zero_words.Reads as reads
-use Rattle.catalogue.proofs.words.zero_words.Lts as lts
 
 all-passed : (i : ℕ) (w : List ℕ) → i ≡ length w → replicate i 0 ++ drop i w ≡ replicate (length w) 0
 all-passed i w e = rw (e, drop-length w) (append-nil (replicate (length w) 0))

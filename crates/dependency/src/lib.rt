@@ -1,0 +1,56 @@
+// The technician's two questions about a dependency: does it hold, and if not, which two rows break it?
+// Relies on `catalogue` for the check and for the agreement of two rows. Called by `listing` and by programs.
+ghost use mathlib.Core.Path.{_≡_};
+ghost use lib.ListN.{length};
+ghost use Rattle.model.specs.Question.{questionCode, askMeaning, PairMeaning};
+ghost use Rattle.model.specs.Reply.{askReply, pairReply, wordsAfter};
+
+mod question;
+mod search;
+
+use catalogue::refusal;
+use catalogue::zero_words;
+use model::AskAnswer;
+use model::PairAnswer;
+pub use question::question_code;
+pub use search::Found;
+pub use search::breaking_pair;
+
+// Does the left side give the right side in the target table? Every work word is 0 after an answer, and none is altered by a refusal.
+pub fn ask(cat: &[u8], target: u32, left: u32, right: u32, work: &mut [u32]) -> AskAnswer
+    ensures { λ r. ⌜ askReply r ≡ askMeaning (now (cat .entry)) target left right (length (now (work .entry))) ⌝ }
+    ensures { λ _.
+        ⌜ now (work .exit)
+        ≡ wordsAfter (questionCode (now (cat .entry)) target left right (length (now (work .entry)))) (now (work .entry)) ⌝ }
+{
+    let code = question_code(cat, target, left, right, work.len());
+    if code != 0 {
+        return AskAnswer::Refused(refusal(code));
+    }
+    zero_words(work);
+    match breaking_pair(cat, target, left, right) {
+        Found::Pair {
+            first: _,
+            second: _,
+        } => AskAnswer::Breaks,
+        Found::Nothing => AskAnswer::Holds,
+    }
+}
+
+// Two rows that break the dependency, the lower first, or 'none' where it holds. The work words as above.
+pub fn pair(cat: &[u8], target: u32, left: u32, right: u32, work: &mut [u32]) -> PairAnswer
+    ensures { λ r. ⌜ PairMeaning (now (cat .entry)) target left right (length (now (work .entry))) (pairReply r) ⌝ }
+    ensures { λ _.
+        ⌜ now (work .exit)
+        ≡ wordsAfter (questionCode (now (cat .entry)) target left right (length (now (work .entry)))) (now (work .entry)) ⌝ }
+{
+    let code = question_code(cat, target, left, right, work.len());
+    if code != 0 {
+        return PairAnswer::Refused(refusal(code));
+    }
+    zero_words(work);
+    match breaking_pair(cat, target, left, right) {
+        Found::Pair { first, second } => PairAnswer::Rows { first, second },
+        Found::Nothing => PairAnswer::Nothing,
+    }
+}

@@ -1,0 +1,13 @@
+pub mod Grounds
+pub mod Bytes
+pub mod Order
+pub mod Trailer
+pub mod Entries
+pub mod Round
+pub mod Checks
+pub mod Opening
+pub mod Reading
+pub mod Writes
+pub mod Passes
+pub mod Held
+pub mod Called

@@ -1,0 +1,66 @@
+-- What opening a file answers, ground by ground: 14 by its three tests, then 15, then the list.
+use Prim.Native.Nat.{ℕ, _+_, _-_, _*_, _≤_, _<_}
+use mathlib.Core.Path.{_≡_, refl, sym, ap, ap₂, _∙_}
+use mathlib.Core.List.{List, [], _∷_}
+use mathlib.Core.Bool.{Bool, true, false, not}
+use native.Mathlib.Omega.{arith}
+use lib.ListN.{length}
+use borrow.Author.Tests.{not-true, not-false}
+use Rattle.columns.proofs.Test.{is-if-eq, is-if-ne, is-if-lt, is-if-not-lt}
+use Rattle.model.specs.Reply.{Reply, refused, answered, replyOf}
+use Rattle.model.specs.Packed.{entriesFrom, entriesIn, countIn, distanceIn, listCode, entriesCode, readCode, openMeaning}
+use Rattle.packed.specs.Verdict.{badUnless}
+use Rattle.packed.proofs.Grounds.{else-first, else-second}
+use Rattle.packed.proofs.Trailer.{Listed, lists}
+
+-- a reply by its code
+pub reply-refused : {n code : ℕ} (values : List ℕ) → n ≡ code → (n ≡ 0 → ⊥) → refused n ≡ replyOf code values
+unfolding replyOf
+reply-refused values e z = is-if-ne _ (λ y. z (e ∙ y)) (ap refused e)
+
+pub reply-answered : {code : ℕ} (values : List ℕ) → code ≡ 0 → answered values ≡ replyOf code values
+unfolding replyOf
+reply-answered values e = is-if-eq _ e refl
+
+-- 14
+no-list : (b : List ℕ) → 14 ≡ listCode b → refused 14 ≡ openMeaning b
+unfolding openMeaning readCode
+no-list b e =
+    reply-refused _ (e ∙ sym (else-first _ _ (λ z. let y : _≡_ {A = ℕ} 14 0 = e ∙ z in omega arith))) (λ z. omega arith)
+
+pub too-short : (b : List ℕ) → length b < 8 → refused 14 ≡ openMeaning b
+unfolding listCode
+too-short b h = no-list b (is-if-lt _ h refl)
+
+pub wrong-distance : (b : List ℕ) {d k : ℕ} → 8 ≤ length b → d ≡ distanceIn b → k ≡ countIn b → (d ≡ 4 * k + 8 → ⊥) → refused 14 ≡ openMeaning b
+unfolding listCode
+wrong-distance b h p q n =
+    no-list b (is-if-not-lt _ h (is-if-ne _ (λ z. n (p ∙ z ∙ ap (λ (k : ℕ). 4 * k + 8) (sym q))) refl))
+
+pub too-far : (b : List ℕ) {d k : ℕ} → 8 ≤ length b → d ≡ distanceIn b → k ≡ countIn b → d ≡ 4 * k + 8 → length b < d → refused 14 ≡ openMeaning b
+unfolding listCode
+too-far b h p q e l =
+    no-list b
+    (is-if-not-lt _ h (is-if-eq _ (sym p ∙ e ∙ ap (λ (k : ℕ). 4 * k + 8) q) (is-if-lt _ (omega arith) refl)))
+
+-- 15, and the list
+module _ (b : List ℕ) {d k : ℕ} (t : Bool) (h : 8 ≤ length b) (p : d ≡ distanceIn b) (q : k ≡ countIn b) (e : d ≡ 4 * k + 8)
+    (l : d ≤ length b) (r : badUnless t ≡ entriesCode (entriesFrom b k (length b - d))) where
+  is-list : listCode b ≡ 0
+  is-list =
+      lists b (record { trailer = h; distance = sym p ∙ e ∙ ap (λ (k : ℕ). 4 * k + 8) q; fits = omega arith })
+
+  checked : badUnless t ≡ readCode b
+  unfolding readCode entriesIn
+  checked =
+      r ∙ ap entriesCode (ap₂ (λ (m n : ℕ). entriesFrom b m (length b - n)) q p) ∙ sym (else-second _ _ is-list)
+
+  pub bad-list : not t ≡ true → refused 15 ≡ openMeaning b
+  unfolding openMeaning
+  bad-list n = reply-refused _ (sym (ap badUnless (not-true t n)) ∙ checked) (λ z. omega arith)
+
+  pub good-list : not t ≡ false → answered (k ∷ (length b - d) ∷ []) ≡ openMeaning b
+  unfolding openMeaning
+  good-list n =
+      ap₂ (λ (m n : ℕ). answered (m ∷ (length b - n) ∷ [])) q p
+      ∙ reply-answered _ (sym checked ∙ ap badUnless (not-false t n))

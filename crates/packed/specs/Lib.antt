@@ -1,0 +1,5 @@
+pub mod Small
+pub mod Verdict
+pub mod Round
+pub mod Packing
+pub mod Reading
