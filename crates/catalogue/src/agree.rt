@@ -16,10 +16,8 @@ use crate::place::parent;
 use crate::place::parent_row;
 use crate::place::trailer;
 use crate::place::visible;
+use model::MISSING;
 use model::TABLE_BOUND;
-
-// The code of a missing cell.
-const MISSING: u32 = 4294967295;
 
 // The table that visible column v of table i belongs to.
 pub fn owner(b: &[u8], i: u32, v: u32) -> u32
@@ -76,7 +74,7 @@ fn cells_agree(p: u32, q: u32, x: u32, y: u32) -> bool
 }
 
 // n - k, or 0 where k is more.
-fn less(n: u32, k: u32) -> u32
+pub fn less(n: u32, k: u32) -> u32
     ensures { λ r. ⌜ r ≡ n - k ⌝ }
 {
     if k <= n {

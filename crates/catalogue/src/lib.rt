@@ -12,6 +12,7 @@ pub use agree::agree_on;
 pub use agree::agree_set;
 pub use agree::agree_set_of;
 pub use agree::ancestor;
+pub use agree::less;
 pub use agree::owner;
 pub use code::BAD_ENTRY;
 pub use code::BAD_EXTENT;

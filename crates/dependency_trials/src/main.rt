@@ -1,19 +1,18 @@
 // Runs the proved cases K1 to K9 and the boundary cases of the question and of the breaking pair through the compiled calls, and prints what
 // came back.
-mod album;
 mod large;
 mod print;
 
-use album::ALBUM;
-use album::EMPTY;
-use album::EQUAL;
-use album::LONE;
-use album::MISSING_TWICE;
-use album::THREE;
 use large::trial_deep;
 use large::trial_flat;
 use print::trial;
 use print::trial_on;
+use trial_kit::ALBUM;
+use trial_kit::EMPTY;
+use trial_kit::EQUAL;
+use trial_kit::LONE;
+use trial_kit::MISSING_TWICE;
+use trial_kit::THREE;
 
 // The cases of the document's table.
 fn proved_cases() {

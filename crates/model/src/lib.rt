@@ -9,10 +9,14 @@ pub const ROW_BOUND: u32 = 4096;
 
 pub const WORK_BOUND: usize = 16384;
 
+// The code of a missing cell.
+pub const MISSING: u32 = 4294967295;
+
 // The right side that stands for the row itself.
 pub const ROW: u32 = 255;
 
-// An entry of a listing: in the target table, the left side gives the right side.
+// An entry of a listing: in the target table, the left side gives the right side. Laid out as in C, so that hosts can lend runs of them.
+#[repr(C)]
 pub struct Entry {
     pub target: u8,
     pub right: u8,

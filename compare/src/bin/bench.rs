@@ -1,0 +1,345 @@
+//! Times of the library's calls on named shapes, beside three peers in the same run.
+//!
+//!     bench [SHAPE]...          all shapes if none is named
+//!
+//! Peers: `simple`, document 01 in plain loops; `TANE`, the level-wise partition search; `table`, the table of
+//! broken rights in plain Rust. A ratio is the peer's time over the library's. Each figure is the least of
+//! several runs, in time of the processor, so that other programs disturb it little: the catalogue has been
+//! read before, all buffers are allocated and written beforehand, and the work words hold noise at the start of
+//! every library call. The peers' listings include reading the catalogue and allocating their memory.
+//!
+//! Codes are drawn evenly from a range of values, by column 2 to 64, or 2 to 8 in the shapes named `-few`. One
+//! cell in a hundred is missing in two columns. In a flat shape the last column is a function of two others and
+//! the one before it of three; in a line the last column is a function of its table's first and the root's
+//! first. So most dependencies with small left sides break, some hold, and keys are larger in the `-few`
+//! shapes. That matters to TANE, whose work grows with the size of the keys; the table's does not. Rows stand
+//! in document order: parent rows ascend.
+
+use compare::random::{Draft, DraftTable, Random};
+use compare::simple::{self, Catalogue, Entry, MISSING, NO_PARENT, ROW, WORK_WORDS};
+use compare::{ffi, table, tane};
+use std::hint::black_box;
+use std::process::{exit, Command, Stdio};
+use std::time::{Duration, Instant};
+
+const MANY_WORDS: usize = 65_536;
+/// Records lent to a listing: more than any of these shapes has entries.
+const RECORDS: usize = 1 << 20;
+/// A peer's listing that would take longer is skipped.
+const SKIP: f64 = 30.0;
+/// A library listing that takes longer is given up.
+const GIVE_UP: Duration = Duration::from_secs(180);
+
+// ---- Shapes ----
+
+struct Shape {
+    name: &'static str,
+    file: Vec<u8>,
+    /// A question of the last table that holds: its left side and its right.
+    holds: (u32, u32),
+}
+
+/// The number of values of each column.
+type Ranges = [usize; 16];
+const MODERATE: Ranges = [2, 3, 4, 5, 6, 8, 10, 12, 16, 20, 24, 32, 48, 64, 40, 56];
+const FEW: Ranges = [2, 3, 2, 3, 4, 5, 4, 5, 6, 5, 6, 7, 8, 8, 6, 8];
+
+fn code(random: &mut Random, ranges: &Ranges, column: usize) -> u32 {
+    if (column == 8 || column == 11) && random.once_in(100) {
+        return MISSING;
+    }
+    random.below(ranges[column]) as u32
+}
+
+/// A number below `bound`, the same for the same codes.
+fn mixed(codes: &[u32], bound: usize) -> u32 {
+    let sum = codes.iter().fold(17u32, |sum, code| sum.wrapping_mul(31).wrapping_add(*code));
+    (sum.wrapping_mul(2_654_435_761) >> 8) % bound as u32
+}
+
+/// One table. The last column is given by columns 0 and 1, the one before it by columns 2, 3 and 4.
+fn flat(name: &'static str, rows: usize, columns: usize, ranges: &Ranges) -> Shape {
+    let mut random = Random::new(rows as u64);
+    let mut row = || {
+        let mut codes: Vec<u32> = (0..columns).map(|column| code(&mut random, ranges, column)).collect();
+        codes[columns - 2] = mixed(&codes[2..5], ranges[14]);
+        codes[columns - 1] = mixed(&codes[0..2], ranges[15]);
+        (NO_PARENT, codes)
+    };
+    let rows = (0..rows).map(|_| row()).collect();
+    let draft = Draft { tables: vec![DraftTable { columns, parent: NO_PARENT, rows }] };
+    Shape { name, file: draft.file(), holds: (0b11, columns as u32 - 1) }
+}
+
+/// The columns and rows of a line of tables.
+const LINE: [(usize, usize); 4] = [(3, 40), (4, 200), (4, 1_000), (5, 4_096)];
+
+/// A line of tables. The last column of the last table is given by its first and the root's first.
+fn line(name: &'static str, ranges: &Ranges) -> Shape {
+    let sizes = LINE;
+    let mut random = Random::new(sizes.len() as u64);
+    let mut draft = Draft::default();
+    let mut inherited = 0;
+    for (i, (columns, rows)) in sizes.iter().enumerate() {
+        let mut table =
+            DraftTable { columns: *columns, parent: if i == 0 { NO_PARENT } else { i - 1 }, rows: Vec::new() };
+        for k in 0..*rows {
+            let parent = if i == 0 { NO_PARENT } else { k * sizes[i - 1].1 / rows };
+            let visible = inherited..inherited + columns;
+            let mut codes: Vec<u32> = visible.map(|column| code(&mut random, ranges, column)).collect();
+            if i + 1 == sizes.len() {
+                codes[columns - 1] = mixed(&[root_code(&draft, i - 1, parent), codes[0]], ranges[15]);
+            }
+            table.rows.push((parent, codes));
+        }
+        inherited += columns;
+        draft.tables.push(table);
+    }
+    let first_own = inherited - sizes[sizes.len() - 1].0;
+    Shape { name, file: draft.file(), holds: (1 | 1 << first_own, inherited as u32 - 1) }
+}
+
+/// The root's first code above a row of a table in a line.
+fn root_code(draft: &Draft, table: usize, row: usize) -> u32 {
+    let (parent, codes) = &draft.tables[table].rows[row];
+    if table == 0 {
+        codes[0]
+    } else {
+        root_code(draft, table - 1, *parent)
+    }
+}
+
+const SHAPES: [&str; 6] = ["flat-4096x16", "flat-4096x16-few", "line-4", "line-4-few", "flat-480x16", "flat-60x8"];
+
+fn shape(name: &str) -> Option<Shape> {
+    match name {
+        "flat-4096x16" => Some(flat("flat-4096x16", 4_096, 16, &MODERATE)),
+        "flat-4096x16-few" => Some(flat("flat-4096x16-few", 4_096, 16, &FEW)),
+        "line-4" => Some(line("line-4", &MODERATE)),
+        "line-4-few" => Some(line("line-4-few", &FEW)),
+        "flat-480x16" => Some(flat("flat-480x16", 480, 16, &MODERATE)),
+        "flat-60x8" => Some(flat("flat-60x8", 60, 8, &MODERATE)),
+        _ => None,
+    }
+}
+
+// ---- Timing ----
+
+/// The least of several runs, in seconds: at least one, and more within about half a second.
+fn least(mut run: impl FnMut() -> f64) -> f64 {
+    let start = Instant::now();
+    let mut best = f64::INFINITY;
+    for _ in 0..1_000 {
+        best = best.min(run());
+        if start.elapsed() > Duration::from_millis(500) {
+            break;
+        }
+    }
+    best
+}
+
+/// The time that the processor spent on some work, in seconds.
+fn seconds<T>(work: impl FnOnce() -> T) -> f64 {
+    let start = processor_time();
+    black_box(work());
+    processor_time() - start
+}
+
+/// The processor's time for this thread so far, in seconds.
+fn processor_time() -> f64 {
+    const CLOCK_THREAD_CPUTIME_ID: i32 = 3;
+    extern "C" {
+        fn clock_gettime(clock: i32, time: *mut [i64; 2]) -> i32;
+    }
+    let mut time = [0; 2];
+    unsafe { clock_gettime(CLOCK_THREAD_CPUTIME_ID, &mut time) };
+    time[0] as f64 + time[1] as f64 * 1e-9
+}
+
+fn noise(work: &mut [u32]) {
+    work.iter_mut().enumerate().for_each(|(i, word)| *word = (i as u32).wrapping_mul(2_654_435_761) | 1);
+}
+
+/// The time of a library call with work words that hold noise at its start.
+fn with_words(words: usize, mut call: impl FnMut(&mut [u32])) -> f64 {
+    let mut work = vec![0; words];
+    least(|| {
+        noise(&mut work);
+        seconds(|| call(&mut work))
+    })
+}
+
+fn shown(time: f64) -> String {
+    match time {
+        time if time >= 1.0 => format!("{time:.2} s"),
+        time if time >= 1e-3 => format!("{:.2} ms", time * 1e3),
+        time => format!("{:.2} us", time * 1e6),
+    }
+}
+
+fn ratio(peer: f64, library: Option<f64>) -> String {
+    match library {
+        Some(library) => format!("{} (x {:.2})", shown(peer), peer / library),
+        None => shown(peer),
+    }
+}
+
+// ---- A library listing in a process of its own, so that it can be given up ----
+
+/// A number that tells two lists of entries apart.
+fn digest(entries: &[Entry]) -> u64 {
+    entries.iter().fold(entries.len() as u64, |sum, entry| {
+        let number = (entry.target as u64) << 24 | (entry.right as u64) << 16 | entry.left as u64;
+        (sum ^ number).wrapping_mul(0x0000_0100_0000_01B3)
+    })
+}
+
+/// Lists the whole catalogue by calls of this budget. Gives the entries.
+fn listed(file: &[u8], budget: u32, run: &mut [Entry], work: &mut [u32]) -> usize {
+    let (mut place, mut count) = (0, 0);
+    loop {
+        let (mut next, mut passed) = (0, 0);
+        let reply = ffi::list(file, place, budget, &mut run[count..], work, &mut next, &mut passed);
+        assert!(reply >= 0, "refused {reply}");
+        count += reply as usize;
+        place = next;
+        if passed < budget {
+            return count;
+        }
+    }
+}
+
+/// `bench --listing SHAPE WORDS BUDGET`: prints the time, the number of entries and their digest.
+fn child(arguments: &[String]) {
+    let shape = shape(&arguments[0]).unwrap();
+    let words = arguments[1].parse().unwrap();
+    let budget = arguments[2].parse().unwrap();
+    let mut run = vec![Entry { target: 9, right: 9, left: 9 }; RECORDS];
+    let mut count = 0;
+    let time = with_words(words, |work| count = listed(&shape.file, budget, &mut run, work));
+    println!("{time} {count} {}", digest(&run[..count]));
+}
+
+/// The time, number and digest of a library listing, or none if it took too long.
+fn library_listing(shape: &Shape, words: usize, budget: u32) -> Option<(f64, usize, u64)> {
+    let program = std::env::current_exe().unwrap();
+    let arguments = ["--listing", shape.name, &words.to_string(), &budget.to_string()];
+    let mut child = Command::new(program).args(arguments).stdout(Stdio::piped()).spawn().unwrap();
+    let start = Instant::now();
+    while child.try_wait().unwrap().is_none() {
+        if start.elapsed() > GIVE_UP {
+            child.kill().unwrap();
+            child.wait().unwrap();
+            return None;
+        }
+        std::thread::sleep(Duration::from_millis(2));
+    }
+    let output = String::from_utf8(child.wait_with_output().unwrap().stdout).unwrap();
+    let words: Vec<&str> = output.split_whitespace().collect();
+    match words[..] {
+        [time, count, digest] => Some((time.parse().unwrap(), count.parse().unwrap(), digest.parse().unwrap())),
+        _ => {
+            println!("the library's listing failed");
+            exit(1)
+        }
+    }
+}
+
+// ---- The table of times ----
+
+fn line_of(call: &str, library: &str, simple: &str, tane: &str, table: &str) {
+    println!("  {call:<34} {library:>14}  {simple:>24}  {tane:>22}  {table:>20}");
+}
+
+fn questions(shape: &Shape, catalogue: &Catalogue) {
+    let file = &shape.file;
+    let target = catalogue.tables.len() as u32 - 1;
+    let (left, right) = shape.holds;
+    let library = least(|| seconds(|| ffi::check(file, &mut 0, &mut 0)));
+    let simple = least(|| seconds(|| simple::check(file)));
+    line_of("check", &shown(library), &ratio(simple, Some(library)), "", "");
+    let mut work = vec![0; WORK_WORDS];
+    for (call, left, right) in [("ask, holds", left, right), ("ask, breaks", left, ROW)] {
+        let mut reply = 0;
+        let library = with_words(WORK_WORDS, |work| reply = ffi::ask(file, target, left, right, work));
+        assert_eq!(reply, (call == "ask, holds") as i32);
+        let simple =
+            least(|| seconds(|| simple::check(file).and_then(|it| simple::ask(&it, target, left, right, &mut work))));
+        line_of(call, &shown(library), &ratio(simple, Some(library)), "", "");
+    }
+    for (call, left, right) in [("pair, none", left, right), ("pair, found", left, ROW)] {
+        let mut reply = 0;
+        let library = with_words(WORK_WORDS, |work| reply = ffi::pair(file, target, left, right, work, &mut 0, &mut 0));
+        assert_eq!(reply, (call == "pair, found") as i32);
+        let simple =
+            least(|| seconds(|| simple::check(file).and_then(|it| simple::pair(&it, target, left, right, &mut work))));
+        line_of(call, &shown(library), &ratio(simple, Some(library)), "", "");
+    }
+}
+
+/// The full listing by the simple implementation, unless it would take too long.
+fn simple_listing(shape: &Shape, catalogue: &Catalogue) -> Result<f64, String> {
+    let target = catalogue.tables.len() as u32 - 1;
+    let (left, right) = shape.holds;
+    let question = seconds(|| simple::holds(catalogue, target as usize, left, right));
+    let estimate = question * catalogue.sets() as f64;
+    if estimate > SKIP {
+        return Err(format!("skipped, over {estimate:.0} s"));
+    }
+    Ok(least(|| seconds(|| simple::full_listing(catalogue))))
+}
+
+fn listings(shape: &Shape, catalogue: &Catalogue) {
+    let read = || simple::check(&shape.file).unwrap();
+    let entries = table::listing(catalogue);
+    let digest = digest(&entries);
+    let table = least(|| seconds(|| table::listing(&read())));
+    let mut tane_entries = Vec::new();
+    let tane = least(|| seconds(|| tane_entries = tane::listing(&read())));
+    assert!(tane_entries == entries, "TANE and the table list differently");
+    let simple = simple_listing(shape, catalogue);
+    for (call, words) in [("full listing, 65,536 words", MANY_WORDS), ("full listing, 16,384 words", WORK_WORDS)] {
+        let library = library_listing(shape, words, u32::MAX);
+        if let Some((_, count, found)) = library {
+            assert!((count, found) == (entries.len(), digest), "the library and the table list differently");
+        }
+        let time = library.map(|(time, _, _)| time);
+        let simple = match &simple {
+            Ok(simple) => ratio(*simple, time),
+            Err(note) => note.clone(),
+        };
+        let library = time.map_or(format!("over {} s", GIVE_UP.as_secs()), shown);
+        line_of(call, &library, &simple, &ratio(tane, time), &ratio(table, time));
+    }
+    if shape.name == "flat-480x16" {
+        for words in [MANY_WORDS, WORK_WORDS] {
+            let time = library_listing(shape, words, 1).map(|(time, _, _)| time);
+            let shown = time.map_or(format!("over {} s", GIVE_UP.as_secs()), shown);
+            line_of(&format!("{} calls of budget 1, {words} words", catalogue.sets()), &shown, "", "", "");
+        }
+    }
+}
+
+fn main() {
+    let arguments: Vec<String> = std::env::args().skip(1).collect();
+    if arguments.first().is_some_and(|first| first == "--listing") {
+        return child(&arguments[1..]);
+    }
+    let names: Vec<&str> =
+        if arguments.is_empty() { SHAPES.to_vec() } else { arguments.iter().map(String::as_str).collect() };
+    println!(
+        "processor time, least of several runs; buffers written beforehand, work words hold noise; (x peer / library)"
+    );
+    for name in names {
+        let Some(shape) = shape(name) else {
+            println!("no shape {name}; there are {}", SHAPES.join(", "));
+            exit(2)
+        };
+        let catalogue = simple::check(&shape.file).unwrap();
+        let entries = table::listing(&catalogue).len();
+        println!("{name}: {} bytes, {} sets, {entries} entries", shape.file.len(), catalogue.sets());
+        line_of("call", "library", "simple", "TANE", "table");
+        questions(&shape, &catalogue);
+        listings(&shape, &catalogue);
+    }
+}

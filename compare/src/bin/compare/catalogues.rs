@@ -1,0 +1,85 @@
+//! One random catalogue with all its comparisons: sound, then damaged in several ways.
+
+use crate::trial::{negative, same, Outcome, Trial};
+use crate::{listings, packed, questions};
+use compare::ffi;
+use compare::lent::{Numbers, Placed};
+use compare::random;
+use compare::simple::{self, Catalogue, Refusal};
+
+/// How many damaged files are made from each catalogue.
+const DAMAGED: usize = 8;
+
+pub fn run(trial: &mut Trial) -> Outcome {
+    let layout = random::draft(&mut trial.random).layout();
+    sound(trial, &layout.file)?;
+    for _ in 0..DAMAGED {
+        let file = random::damaged(&mut trial.random, &layout);
+        damaged(trial, &file)?;
+    }
+    if trial.random.once_in(20) {
+        let layout = random::draft_at_bound(&mut trial.random).layout();
+        damaged(trial, &layout.file)?;
+        let file = random::damaged(&mut trial.random, &layout);
+        damaged(trial, &file)?;
+    }
+    packed::run(trial, &layout.file)
+}
+
+/// All calls on a sound catalogue.
+fn sound(trial: &mut Trial, file: &[u8]) -> Outcome {
+    trial.file = file.to_vec();
+    let placed = Placed::new(file, &mut trial.random);
+    let catalogue =
+        check(trial, &placed)?.map_err(|refusal| format!("the generator made a refused file: {refusal:?}"))?;
+    questions::many(trial, &placed, &catalogue)?;
+    let listing = simple::full_listing(&catalogue);
+    listings::one_go(trial, &placed, &listing)?;
+    listings::steps(trial, &placed, &listing, false)?;
+    listings::steps(trial, &placed, &listing, true)?;
+    listings::any_calls(trial, &placed, &listing)?;
+    packed::listing(trial, file, &listing.concat())?;
+    same(|| "the catalogue after all calls".into(), placed.file(), file)
+}
+
+/// The calls on a file that may be refused: each must be refused alike. If it is sound after all, a few calls
+/// on it.
+pub fn damaged(trial: &mut Trial, file: &[u8]) -> Outcome {
+    trial.file = file.to_vec();
+    let placed = Placed::new(file, &mut trial.random);
+    match check(trial, &placed)? {
+        Err(refusal) => {
+            questions::refused(trial, &placed, refusal)?;
+            listings::refused(trial, &placed, refusal)?;
+        }
+        Ok(catalogue) => {
+            questions::few(trial, &placed, &catalogue)?;
+            if catalogue.sets() <= 300 {
+                let listing = simple::full_listing(&catalogue);
+                listings::any_calls(trial, &placed, &listing)?;
+            }
+        }
+    }
+    same(|| "the file after all calls".into(), placed.file(), file)
+}
+
+/// The check alone.
+pub fn check(trial: &mut Trial, placed: &Placed) -> Result<Result<Catalogue, Refusal>, String> {
+    let mut numbers: Numbers<u32> = Numbers::new(&mut trial.random);
+    let before = numbers.values();
+    let [tables, sets, _] = numbers.lend();
+    let reply = ffi::check(placed.file(), tables, sets);
+    let answer = simple::check(placed.file());
+    let (expected, values) = match &answer {
+        Ok(catalogue) => (0, [catalogue.tables.len() as u32, catalogue.sets(), before[2]]),
+        Err(refusal) => (negative(*refusal) as i32, before),
+    };
+    let call = || "check: reply, tables and sets".to_string();
+    same(call, (reply, numbers.values()), (expected, values))?;
+    same(call, numbers.untouched_but_first(2), true)?;
+    match &answer {
+        Ok(_) => trial.seen.answer("check, sound"),
+        Err(refusal) => trial.seen.refusal(*refusal),
+    }
+    Ok(answer)
+}

@@ -1,0 +1,104 @@
+//! Fixed cases before the random ones: the album throughout, and catalogues at and past the bounds.
+
+use crate::catalogues::{check, damaged};
+use crate::trial::{Outcome, Trial, MANY_WORDS};
+use crate::{listings, packed, questions};
+use compare::lent::Placed;
+use compare::random::{Draft, DraftTable, Random};
+use compare::simple::{self, MISSING, NO_PARENT, ROWS, WORK_WORDS};
+
+pub fn run(trial: &mut Trial) -> Outcome {
+    album(trial)?;
+    damaged_album(trial)?;
+    for (columns, rows) in [(16, 0), (16, 1), (16, 3), (17, 1), (0, ROWS), (0, ROWS + 1), (2, ROWS), (2, ROWS + 1)] {
+        flat(trial, columns, rows)?;
+    }
+    line(trial)
+}
+
+fn album_file() -> Vec<u8> {
+    let root = |code| (NO_PARENT, vec![code]);
+    let sheet = |parent, tray, profile| (parent, vec![tray, profile]);
+    let shops = DraftTable { columns: 1, parent: NO_PARENT, rows: vec![root(5), root(5), root(MISSING)] };
+    let rows = vec![sheet(0, 1, 7), sheet(1, 3, 7), sheet(2, 1, 8), sheet(2, 2, 8)];
+    let sheets = DraftTable { columns: 2, parent: 0, rows };
+    Draft { tables: vec![shops, sheets] }.file()
+}
+
+/// Every question and every call on the album, with each number of words at its bound.
+fn album(trial: &mut Trial) -> Outcome {
+    let file = album_file();
+    trial.file = file.clone();
+    let placed = Placed::new(&file, &mut trial.random);
+    let catalogue = check(trial, &placed)?.map_err(|refusal| format!("the album is refused: {refusal:?}"))?;
+    questions::every(trial, &placed, &catalogue, &[WORK_WORDS - 1, WORK_WORDS])?;
+    let listing = simple::full_listing(&catalogue);
+    listings::every(trial, &placed, &listing, 4, &[WORK_WORDS - 1, WORK_WORDS, MANY_WORDS])?;
+    packed::listing(trial, &file, &listing.concat())
+}
+
+/// The album cut at every length, lengthened, and with each of its bytes altered.
+fn damaged_album(trial: &mut Trial) -> Outcome {
+    let file = album_file();
+    for len in 0..file.len() {
+        damaged(trial, &file[..len])?;
+    }
+    damaged(trial, &[&file[..], &[0]].concat())?;
+    for at in 0..file.len() {
+        for byte in [0, 1, 2, 3, 16, 17, 254, 255, file[at].wrapping_add(1), file[at].wrapping_sub(1)] {
+            let mut file = file.clone();
+            file[at] = byte;
+            damaged(trial, &file)?;
+        }
+    }
+    Ok(())
+}
+
+/// One table, in and past the bounds. Codes from small ranges; the last column is given by the first.
+fn flat(trial: &mut Trial, columns: usize, rows: usize) -> Outcome {
+    let mut random = Random::new(columns as u64);
+    let mut row = || {
+        let mut codes: Vec<u32> = (0..columns).map(|k| random.below(2 + k % 3) as u32).collect();
+        if columns > 1 {
+            codes[columns - 1] = codes[0] % 2;
+        }
+        (NO_PARENT, codes)
+    };
+    let rows = (0..rows).map(|_| row()).collect();
+    let file = Draft { tables: vec![DraftTable { columns, parent: NO_PARENT, rows }] }.file();
+    whole(trial, &file)
+}
+
+/// A line of four tables with 16 visible columns, some cells missing at every level.
+fn line(trial: &mut Trial) -> Outcome {
+    let mut random = Random::new(4);
+    let mut tables: Vec<DraftTable> = Vec::new();
+    for (i, (columns, rows)) in [(3, 2), (4, 3), (4, 3), (5, 4)].into_iter().enumerate() {
+        let mut row = || {
+            let codes = (0..columns).map(|_| random.pick(&[0, 1, 1, MISSING])).collect();
+            let parent = if i == 0 { NO_PARENT } else { random.below(tables[i - 1].rows.len()) };
+            (parent, codes)
+        };
+        let rows = (0..rows).map(|_| row()).collect();
+        tables.push(DraftTable { columns, parent: if i == 0 { NO_PARENT } else { i - 1 }, rows });
+    }
+    whole(trial, &Draft { tables }.file())
+}
+
+/// The check, a few questions, and the whole listing with few words and with many.
+fn whole(trial: &mut Trial, file: &[u8]) -> Outcome {
+    trial.file = file.to_vec();
+    let placed = Placed::new(file, &mut trial.random);
+    match check(trial, &placed)? {
+        Err(_) => damaged(trial, file),
+        Ok(catalogue) => {
+            questions::few(trial, &placed, &catalogue)?;
+            let listing = simple::full_listing(&catalogue);
+            listings::one_go(trial, &placed, &listing)?;
+            listings::steps(trial, &placed, &listing, false)?;
+            listings::steps(trial, &placed, &listing, true)?;
+            listings::any_calls(trial, &placed, &listing)?;
+            packed::listing(trial, file, &listing.concat())
+        }
+    }
+}

@@ -1,0 +1,65 @@
+//! Compares the library with the simple implementation on random catalogues, sound and damaged.
+//!
+//!     compare [CATALOGUES] [SEED]
+//!
+//! CATALOGUES (20,000 if not given) are made from the seeds SEED, SEED + 1, and so on (from 1 if not given),
+//! after the fixed cases. A difference is printed with its seed and catalogue, and ends the run with status 1;
+//! `compare 1 SEED` repeats it.
+
+mod catalogues;
+mod fixed;
+mod listings;
+mod packed;
+mod questions;
+mod trial;
+
+use std::process::exit;
+use std::time::Instant;
+use trial::Trial;
+
+/// A line is printed after so many catalogues: it tells where a crash happened.
+const PROGRESS: u64 = 2_000;
+
+fn argument(number: usize, default: u64) -> u64 {
+    match std::env::args().nth(number) {
+        None => default,
+        Some(word) => word.parse().unwrap_or_else(|_| {
+            eprintln!("usage: compare [CATALOGUES] [SEED]");
+            exit(2)
+        }),
+    }
+}
+
+fn main() {
+    let count = argument(1, 20_000);
+    let first = argument(2, 1);
+    let start = Instant::now();
+    let mut trial = Trial::new();
+    let result = fixed::run(&mut trial);
+    end_on_difference(&trial, "fixed cases", result);
+    for seed in first..first + count {
+        trial.start(seed);
+        let result = catalogues::run(&mut trial);
+        end_on_difference(&trial, &format!("seed {seed}"), result);
+        if (seed - first) % PROGRESS == PROGRESS - 1 {
+            println!("seeds {first} to {seed} alike, {:.1} s", start.elapsed().as_secs_f64());
+        }
+    }
+    let complete = count >= 1_000;
+    trial.seen.print();
+    if complete && !trial.seen.all() {
+        println!("some refusal or answer never occurred");
+        exit(1);
+    }
+    println!("{count} catalogues from seed {first}, no difference, {:.1} s", start.elapsed().as_secs_f64());
+}
+
+fn end_on_difference(trial: &Trial, which: &str, result: Result<(), String>) {
+    if let Err(difference) = result {
+        println!("DIFFERENCE, {which}");
+        println!("{difference}");
+        println!("file of {} bytes:", trial.file.len());
+        println!("{}", trial.file.iter().map(|byte| format!("{byte:02x}")).collect::<String>());
+        exit(1);
+    }
+}

@@ -1,0 +1,113 @@
+//! What every comparison needs: the random numbers, the lent memory, the file at hand, and a count of what
+//! occurred.
+
+use compare::lent::{self, Lent};
+use compare::random::Random;
+use compare::simple::{Entry, Refusal, WORK_WORDS};
+use std::fmt::Debug;
+
+/// The words at which every left side of the widest table has its own.
+pub const MANY_WORDS: usize = 65_536;
+
+/// Ok, or what differed.
+pub type Outcome = Result<(), String>;
+
+pub struct Trial {
+    pub random: Random,
+    pub words: Lent<u32>,
+    pub run: Lent<Entry>,
+    pub output: Lent<u8>,
+    /// The catalogue or packed list that is being compared, for the report of a difference.
+    pub file: Vec<u8>,
+    pub seen: Seen,
+}
+
+impl Trial {
+    pub fn new() -> Trial {
+        Trial {
+            random: Random::new(0),
+            words: lent::words(MANY_WORDS + 4_096),
+            run: lent::entries(MANY_WORDS),
+            output: lent::bytes(4 * MANY_WORDS),
+            file: Vec::new(),
+            seen: Seen::default(),
+        }
+    }
+
+    pub fn start(&mut self, seed: u64) {
+        self.random = Random::new(seed);
+    }
+
+    /// A number of work words: mostly enough, few or many, and sometimes too few.
+    pub fn any_words(&mut self) -> usize {
+        match self.random.below(16) {
+            0 => self.random.pick(&[0, 1, WORK_WORDS / 2, WORK_WORDS - 1, WORK_WORDS - 1]),
+            1 => self.random.from_to(WORK_WORDS, MANY_WORDS),
+            2 | 3 => self.many_words(),
+            _ => self.few_words(),
+        }
+    }
+
+    pub fn few_words(&mut self) -> usize {
+        WORK_WORDS + self.random.pick(&[0, 0, 0, 1, 7])
+    }
+
+    pub fn many_words(&mut self) -> usize {
+        MANY_WORDS + self.random.pick(&[0, 0, 0, 1, 7, 4_000])
+    }
+}
+
+/// Compares a reply, described by a call, with the reply by the document.
+pub fn same<T: PartialEq + Debug>(call: impl FnOnce() -> String, library: T, document: T) -> Outcome {
+    if library == document {
+        Ok(())
+    } else {
+        Err(format!("{}\n  library  {library:?}\n  document {document:?}", call()))
+    }
+}
+
+/// Says what differed unless the condition is met.
+pub fn expect(condition: bool, call: impl FnOnce() -> String, what: &str) -> Outcome {
+    if condition {
+        Ok(())
+    } else {
+        Err(format!("{}\n  {what}", call()))
+    }
+}
+
+/// A refusal as the library returns it.
+pub fn negative(refusal: Refusal) -> i64 {
+    -(refusal as i64)
+}
+
+/// How often each refusal and each answer occurred.
+#[derive(Default)]
+pub struct Seen {
+    refusals: [u64; 17],
+    answers: std::collections::BTreeMap<&'static str, u64>,
+}
+
+/// The answers that a run of some length must have met.
+const ANSWERS: [&str; 10] =
+    ["check, sound", "ask, breaks", "ask, holds", "pair", "pair, none", "list", "pack", "open", "read", "read, end"];
+
+impl Seen {
+    pub fn refusal(&mut self, refusal: Refusal) {
+        self.refusals[refusal as usize] += 1;
+    }
+
+    pub fn answer(&mut self, name: &'static str) {
+        *self.answers.entry(name).or_default() += 1;
+    }
+
+    pub fn all(&self) -> bool {
+        self.refusals[1..].iter().all(|count| *count > 0) && ANSWERS.iter().all(|name| self.answers.contains_key(name))
+    }
+
+    pub fn print(&self) {
+        let refusals: Vec<String> = (1..17).map(|number| format!("{number}: {}", self.refusals[number])).collect();
+        println!("refusals  {}", refusals.join(", "));
+        let answers: Vec<String> = self.answers.iter().map(|(name, count)| format!("{name}: {count}")).collect();
+        println!("answers   {}", answers.join("; "));
+    }
+}

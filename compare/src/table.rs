@@ -1,0 +1,126 @@
+//! The full listing by a table with one word per left side.
+//!
+//! For two rows, their agree set is the set of visible columns on which they agree. `scan` stores at each agree
+//! set that occurs the rights that it breaks (bit k column k, bit n the row); `close` ORs the words of all
+//! supersets into each word. Then bit a of word X is 1 exactly if X does not give a, and the minimal rights of
+//! X are read off directly.
+
+use crate::simple::{Catalogue, Entry, MISSING, ROW};
+
+/// The full listing of a catalogue.
+pub fn listing(catalogue: &Catalogue) -> Vec<Entry> {
+    let codes: Vec<Vec<Vec<u32>>> = (0..catalogue.tables.len()).map(|table| columns_of(catalogue, table)).collect();
+    let mut entries = Vec::new();
+    for target in 0..catalogue.tables.len() {
+        let n = catalogue.tables[target].visible.len();
+        let mut broken = vec![0u32; 1 << n];
+        scan(catalogue, &codes, target, &mut broken);
+        close(n, &mut broken);
+        read_off(catalogue, target, &broken, &mut entries);
+    }
+    entries
+}
+
+/// The codes of a table's own columns, column by column.
+fn columns_of(catalogue: &Catalogue, table: usize) -> Vec<Vec<u32>> {
+    let table = &catalogue.tables[table];
+    (0..table.own).map(|own| table.rows.iter().map(|row| row.codes[own]).collect()).collect()
+}
+
+/// Stores the broken rights at the agree set of each pair of rows.
+fn scan(catalogue: &Catalogue, codes: &[Vec<Vec<u32>>], target: usize, broken: &mut [u32]) {
+    let rows = catalogue.tables[target].rows.len();
+    let all = 2 * broken.len() as u32 - 1;
+    let mut lines = vec![Vec::new(); catalogue.tables.len()];
+    for x in 0..rows {
+        fill_line(catalogue, codes, target, x, x + 1, &mut lines);
+        for agree in &lines[target] {
+            broken[*agree as usize] = all - agree;
+        }
+    }
+}
+
+/// Fills the table's line with the agree sets of row x and each row from `from` on, over the table's visible
+/// columns.
+fn fill_line(
+    catalogue: &Catalogue,
+    codes: &[Vec<Vec<u32>>],
+    table: usize,
+    x: usize,
+    from: usize,
+    lines: &mut [Vec<u32>],
+) {
+    let this = &catalogue.tables[table];
+    let inherited = this.visible.len() - this.own;
+    let mut line = std::mem::take(&mut lines[table]);
+    line.clear();
+    line.resize(this.rows.len() - from, 0);
+    for (own, column) in codes[table].iter().enumerate() {
+        let code = column[x];
+        if code != MISSING {
+            let bit = 1 << (inherited + own);
+            for (agree, other) in line.iter_mut().zip(&column[from..]) {
+                *agree |= if *other == code { bit } else { 0 };
+            }
+        }
+    }
+    if inherited > 0 {
+        fill_line(catalogue, codes, this.parent, this.rows[x].parent, 0, lines);
+        let up = &lines[this.parent];
+        for (agree, row) in line.iter_mut().zip(&this.rows[from..]) {
+            *agree |= up[row.parent];
+        }
+    }
+    if x >= from {
+        line[x - from] = (1 << this.visible.len()) - 1;
+    }
+    lines[table] = line;
+}
+
+/// ORs into each word the words of all supersets, one column at a time.
+fn close(n: usize, broken: &mut [u32]) {
+    for k in 0..n {
+        for block in broken.chunks_exact_mut(2 << k) {
+            let (without, with) = block.split_at_mut(1 << k);
+            for (word, above) in without.iter_mut().zip(with) {
+                *word |= *above;
+            }
+        }
+    }
+}
+
+/// The sets of n columns by size, then by number: a counting sort.
+fn in_listing_order(n: usize) -> Vec<u32> {
+    let mut start = [0usize; 18];
+    (0..1u32 << n).for_each(|set| start[set.count_ones() as usize + 1] += 1);
+    (0..17).for_each(|size| start[size + 1] += start[size]);
+    let mut sets = vec![0; 1 << n];
+    for set in 0..1u32 << n {
+        let next = &mut start[set.count_ones() as usize];
+        sets[*next] = set;
+        *next += 1;
+    }
+    sets
+}
+
+/// The minimal rights: not in the left, given by it, and by none of the lefts with a column less.
+fn read_off(catalogue: &Catalogue, target: usize, broken: &[u32], entries: &mut Vec<Entry>) {
+    let table = &catalogue.tables[target];
+    let n = table.visible.len();
+    let inherited = n - table.own;
+    let rights = ((2u32 << n) - 1) & !((1 << inherited) - 1);
+    for left in in_listing_order(n) {
+        let mut minimal = rights & !left & !broken[left as usize];
+        let mut members = left;
+        while members != 0 && minimal != 0 {
+            minimal &= broken[(left & !(members & members.wrapping_neg())) as usize];
+            members &= members - 1;
+        }
+        for k in inherited..=n {
+            if minimal & (1 << k) != 0 {
+                let right = if k == n { ROW as u8 } else { k as u8 };
+                entries.push(Entry { target: target as u8, right, left: left as u16 });
+            }
+        }
+    }
+}

@@ -1,0 +1,128 @@
+//! The simple implementation on document 01's own cases: the album, K1 to K11 and the boundary cases.
+
+use compare::simple::*;
+
+/// A table: its columns, its parent, and its rows as parent row and codes.
+type Plain<'a> = (u16, u16, &'a [(u16, &'a [u32])]);
+
+fn file(tables: &[Plain]) -> Vec<u8> {
+    let mut file = Vec::new();
+    let mut offsets = Vec::new();
+    for (columns, parent, rows) in tables {
+        offsets.push(file.len() as u32);
+        file.extend([*columns, *parent, rows.len() as u16].map(u16::to_le_bytes).concat());
+        for (parent, codes) in *rows {
+            file.extend(parent.to_le_bytes());
+            codes.iter().for_each(|code| file.extend(code.to_le_bytes()));
+        }
+    }
+    let trailer = file.len() as u32;
+    offsets.iter().for_each(|offset| file.extend(offset.to_le_bytes()));
+    file.extend((offsets.len() as u16).to_le_bytes());
+    file.extend(trailer.to_le_bytes());
+    file
+}
+
+const ROOT: u16 = 65_535;
+
+fn album() -> Vec<u8> {
+    let upper: Plain = (1, ROOT, &[(ROOT, &[5]), (ROOT, &[5]), (ROOT, &[MISSING])]);
+    let lower: Plain = (2, 0, &[(0, &[1, 7]), (1, &[3, 7]), (2, &[1, 8]), (2, &[2, 8])]);
+    file(&[upper, lower])
+}
+
+fn words() -> Vec<u32> {
+    vec![9; WORK_WORDS]
+}
+
+fn answer(file: &[u8], target: u32, left: u32, right: u32) -> bool {
+    ask(&check(file).unwrap(), target, left, right, &mut words()).unwrap()
+}
+
+#[test]
+fn the_album_is_the_file_beside_the_examples() {
+    let album = album();
+    assert_eq!(album.len(), 84);
+    assert_eq!(album[70..74], 0u32.to_le_bytes());
+    assert_eq!(album[74..78], 24u32.to_le_bytes());
+    assert_eq!(album[80..84], 70u32.to_le_bytes());
+    assert_eq!(album, std::fs::read("../examples/album.cat").unwrap());
+}
+
+#[test]
+fn the_album_lists_three_entries() {
+    let catalogue = check(&album()).unwrap();
+    assert_eq!((catalogue.tables.len(), catalogue.sets()), (2, 10));
+    let entries: Vec<(u8, u16, u8)> =
+        full_listing(&catalogue).concat().iter().map(|entry| (entry.target, entry.left, entry.right)).collect();
+    assert_eq!(entries, [(1, 1, 2), (1, 3, 255), (1, 6, 255)]);
+}
+
+#[test]
+fn cases_k1_to_k9() {
+    let album = album();
+    assert!(answer(&album, 1, 1, 2));
+    assert!(!answer(&album, 1, 2, 2));
+    assert_eq!(pair(&check(&album).unwrap(), 1, 2, 2, &mut words()), Ok(Some((0, 2))));
+    assert!(answer(&album, 1, 6, ROW));
+    assert!(!answer(&album, 0, 0, 0));
+    assert!(answer(&album, 0, 1, 0));
+    assert!(!listed(&check(&album).unwrap(), 0, 1, 0));
+    assert!(answer(&file(&[(1, ROOT, &[])]), 0, 0, ROW));
+    assert!(answer(&file(&[(1, ROOT, &[(ROOT, &[MISSING])])]), 0, 0, 0));
+    assert!(answer(&file(&[(1, ROOT, &[(ROOT, &[MISSING]), (ROOT, &[MISSING])])]), 0, 1, ROW));
+    let equal = file(&[(0, ROOT, &[(ROOT, &[])]), (2, 0, &[(0, &[1, 2]), (0, &[1, 2])])]);
+    assert!(!answer(&equal, 1, 3, ROW));
+}
+
+#[test]
+fn cases_k10_and_k11() {
+    assert_eq!(left_sides(3), [0, 1, 2, 4, 3, 5, 6, 7]);
+    let listing = full_listing(&check(&album()).unwrap());
+    let mut run = [Entry::default(); 3];
+    let end = Answer { next_place: 10, passed: 0, entries: 0 };
+    assert_eq!(list(&listing, 10, 5, &mut run, &mut words()), Ok(end));
+    assert_eq!(list(&listing, 11, 5, &mut run, &mut words()), Err(Refusal::PastTheEnd));
+}
+
+#[test]
+fn bounds() {
+    let codes = [1u32; 17];
+    assert!(check(&file(&[(16, ROOT, &[(ROOT, &codes[..16])])])).is_ok());
+    assert_eq!(check(&file(&[(17, ROOT, &[(ROOT, &codes)])])).unwrap_err(), Refusal::Oversize);
+    let rows = [(ROOT, &[] as &[u32]); 4_097];
+    assert!(check(&file(&[(0, ROOT, &rows[..4_096])])).is_ok());
+    assert_eq!(check(&file(&[(0, ROOT, &rows)])).unwrap_err(), Refusal::Oversize);
+    assert_eq!(check(&file(&[(16, ROOT, &[]), (1, 0, &[])])).unwrap_err(), Refusal::TooWide);
+    assert_eq!(file(&[(0, ROOT, &[])]).len(), SMALLEST_FILE);
+    let catalogue = check(&album()).unwrap();
+    assert_eq!(ask(&catalogue, 1, 1, 2, &mut [0; 16_383]), Err(Refusal::SmallBench));
+    assert!(ask(&catalogue, 1, 1, 2, &mut words()).is_ok());
+}
+
+#[test]
+fn a_run_of_no_records() {
+    let listing = full_listing(&check(&album()).unwrap());
+    let mut work = words();
+    let stop = Answer { next_place: 3, passed: 3, entries: 0 };
+    assert_eq!(list(&listing, 0, 100, &mut [], &mut work), Ok(stop));
+    work.fill(9);
+    assert_eq!(list(&listing, 3, 1, &mut [], &mut work), Err(Refusal::TrayFull));
+    assert!(work.iter().all(|word| *word == 0));
+    let same = Answer { next_place: 3, passed: 0, entries: 0 };
+    assert_eq!(list(&listing, 3, 0, &mut [], &mut work), Ok(same));
+}
+
+#[test]
+fn packed_lists_round_trip() {
+    let entries = full_listing(&check(&album()).unwrap()).concat();
+    let mut output = [7; 24];
+    assert_eq!(pack(&entries, &mut output), Ok(20));
+    assert_eq!(output[20..], [7; 4]);
+    let opened = open(&[&album()[..], &output[..20]].concat()).unwrap();
+    assert_eq!(opened, List { front: 84, entries: entries.clone() });
+    assert_eq!(pack(&entries, &mut output[..19]), Err(Refusal::ShortSheet));
+    let twice = [entries[0], entries[0]];
+    assert_eq!(pack(&twice, &mut []), Err(Refusal::BadEntry));
+    assert_eq!(open(&output[..7]), Err(Refusal::NoList));
+}

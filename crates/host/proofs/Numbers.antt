@@ -1,0 +1,67 @@
+-- Refusals as negative numbers: each fits both signed widths, so it is read back as it was written, and shows the refusal that it came from.
+use Prim.Native.Nat.{ℕ, suc, _<_, _^_}
+use mathlib.Core.Path.{_≡_, refl, sym, ap, _∙_, subst}
+use native.Mathlib.Omega.{arith}
+use lib.Dec.{lit<}
+use lib.IntN.{ℤ, pos, negsuc, negℤ}
+use mir.Syntax.{w32, w64}
+use mir.Val.{SFits, toZ, ofZ}
+use mir.ValLaws.{toZ-ofZ, toZ-pos}
+use Rattle.model.specs.Refusal.{number}
+use Rattle.model.specs.Reply.{Reply, refused}
+use Rattle.model.specs.declared.Refusal.{Refusal}
+use Rattle.model.specs.declared.Refusal.the-variants.{FileTooShort, BadTrailer, BadExtent, TableTooLarge, BadParentTable, TooManyVisible, BadParentRow, UnknownTable, UnknownColumn, UnknownRight, TooFewWords, PastTheEnd, RunTooShort, NoList, BadEntry, OutputTooShort}
+
+-- the same refusal, the same number
+pub same-refusal : {r s : Refusal} → r ≡ s → negℤ (pos (number s)) ≡ negℤ (pos (number r))
+same-refusal e = ap (λ (r : Refusal). negℤ (pos (number r))) (sym e)
+
+-- a refusal's number is 1 to 16
+number-small : (r : Refusal) → (n : ℕ) × (number r ≡ suc n) × (n < 16)
+number-small FileTooShort = (0, refl, lit< tt)
+number-small BadTrailer = (1, refl, lit< tt)
+number-small BadExtent = (2, refl, lit< tt)
+number-small TableTooLarge = (3, refl, lit< tt)
+number-small BadParentTable = (4, refl, lit< tt)
+number-small TooManyVisible = (5, refl, lit< tt)
+number-small BadParentRow = (6, refl, lit< tt)
+number-small UnknownTable = (7, refl, lit< tt)
+number-small UnknownColumn = (8, refl, lit< tt)
+number-small UnknownRight = (9, refl, lit< tt)
+number-small TooFewWords = (10, refl, lit< tt)
+number-small PastTheEnd = (11, refl, lit< tt)
+number-small RunTooShort = (12, refl, lit< tt)
+number-small NoList = (13, refl, lit< tt)
+number-small BadEntry = (14, refl, lit< tt)
+number-small OutputTooShort = (15, refl, lit< tt)
+
+-- an unsigned number below 2 ^ 63 is read as it is
+pub read-unsigned : (n : ℕ) → n < 2 ^ 63 → toZ w64 n ≡ pos n
+read-unsigned n l = toZ-pos w64 n l
+
+module _ (r : Refusal) where
+  -- what holds of each negative number, from -1 to -16, holds of a refusal's
+  negative-is : (P : ℤ → Type 0) → ((n : ℕ) → n < 16 → P (negsuc n)) → P (negℤ (pos (number r)))
+  negative-is P f =
+      let s = number-small r in
+      subst (λ (k : ℕ). P (negℤ (pos k))) (sym (s .1)) (f (s .0) (s .2))
+
+  fits32 : SFits w32 (negℤ (pos (number r)))
+  fits32 = negative-is (SFits w32) (λ n l. record { sfits = omega arith })
+
+  pub fits64 : SFits w64 (negℤ (pos (number r)))
+  fits64 = negative-is (SFits w64) (λ n l. record { sfits = omega arith })
+
+  module _ {z : ℤ} (e : z ≡ negℤ (pos (number r))) where
+    pub read-back32 : toZ w32 (ofZ w32 z) ≡ negℤ (pos (number r))
+    read-back32 = ap (λ (k : ℤ). toZ w32 (ofZ w32 k)) e ∙ toZ-ofZ w32 _ fits32
+
+    pub read-back64 : toZ w64 (ofZ w64 z) ≡ negℤ (pos (number r))
+    read-back64 = ap (λ (k : ℤ). toZ w64 (ofZ w64 k)) e ∙ toZ-ofZ w64 _ fits64
+
+  -- the reply that it shows
+  pub refused-seen : (seen : ℤ → Reply) → ((n : ℕ) → seen (negsuc n) ≡ refused (suc n))
+      → seen (negℤ (pos (number r))) ≡ refused (number r)
+  refused-seen seen f =
+      let s = number-small r in
+      subst (λ (k : ℕ). seen (negℤ (pos k)) ≡ refused k) (sym (s .1)) (f (s .0))

@@ -1,0 +1,47 @@
+-- What a call hands back to C: one number, a refusal's number made negative or a value of the answer, and the numbers behind lent pointers.
+use Prim.Native.Nat.{ℕ, zero, suc}
+use mathlib.Core.List.{[], _∷_}
+use lib.IntN.{ℤ, pos, negsuc, negℤ}
+use lib.ListN.{getD}
+use Rattle.model.specs.Reply.{Reply, refused, answered}
+use Rattle.model.specs.declared.Entry.{Entry}
+use Rattle.model.specs.declared.ReadAnswer.{ReadAnswer}
+use Rattle.model.specs.declared.ReadAnswer.the-variants.{Next, End}
+
+-- a refusal's number made negative, or the answer's value at an index
+abbrev pub numberOf : ℕ → Reply → ℤ
+numberOf i (refused n) = negℤ (pos n)
+numberOf i (answered vs) = pos (getD vs i 0)
+
+-- what stands behind a lent number afterwards: the answer's value at an index, or what stood there after a refusal
+abbrev pub valueOr : ℕ → ℕ → Reply → ℕ
+valueOr i old (refused n) = old
+valueOr i old (answered vs) = getD vs i 0
+
+-- 0 for an answer, or the refusal
+abbrev pub statusOf : Reply → ℤ
+statusOf (refused n) = negℤ (pos n)
+statusOf (answered vs) = pos 0
+
+-- the reply that a number and the two rows behind lent pointers show: 1 with both rows, 0 for 'none', or a refusal. No other number is one:
+-- `refused 0` is no reply of any call
+abbrev pub pairSeen : ℤ → ℕ → ℕ → Reply
+pairSeen (negsuc n) first second = refused (suc n)
+pairSeen (pos zero) first second = answered []
+pairSeen (pos (suc zero)) first second = answered (first ∷ second ∷ [])
+pairSeen (pos (suc (suc n))) first second = refused 0
+
+-- the reply that an entry count and the two numbers behind lent pointers show: the place reached, the sets passed and the count, or a refusal
+abbrev pub listSeen : ℤ → ℕ → ℕ → Reply
+listSeen (negsuc n) place passed = refused (suc n)
+listSeen (pos n) place passed = answered (place ∷ passed ∷ n ∷ [])
+
+-- 1 for an entry, 0 for 'end'
+abbrev pub readNumber : ReadAnswer → ℤ
+readNumber (Next e) = pos 1
+readNumber End = pos 0
+
+-- what stands behind a lent number afterwards: a field of the entry, or what stood there at the end
+abbrev pub fieldOr : (Entry → ℕ) → ℕ → ReadAnswer → ℕ
+fieldOr field old (Next e) = field e
+fieldOr field old End = old

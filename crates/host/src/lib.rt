@@ -1,0 +1,231 @@
+// The public calls for C and other languages: numbers and slices, a refusal as its number made negative.
+// Relies on every crate whose call it hands on. Called by host programs; include/cagberin.h declares it.
+ghost use Prim.Native.Nat.{ℕ, _<_, _^_};
+ghost use mathlib.Core.Path.{_≡_};
+ghost use lib.IntN.{negℤ, pos, negsuc};
+ghost use lib.ListN.{length};
+ghost use Rattle.model.specs.Refusal.{number};
+ghost use Rattle.model.specs.Reply.{wordsAfter, listReply, packReply};
+ghost use Rattle.model.specs.Check.{checkMeaning};
+ghost use Rattle.model.specs.Question.{questionCode, askMeaning, PairMeaning};
+ghost use Rattle.model.specs.List.{ListMeaning};
+ghost use Rattle.model.specs.Packed.{entriesIn, readAt, openMeaning, packMeaning, outputAfter};
+ghost use Rattle.listing.specs.Steps.{seen};
+ghost use Rattle.host.specs.Number.{numberOf, valueOr, statusOf, pairSeen, listSeen, readNumber, fieldOr};
+use model::AskAnswer;
+use model::CheckAnswer;
+use model::Entry;
+use model::ListAnswer;
+use model::OpenAnswer;
+use model::PackAnswer;
+use model::PairAnswer;
+use model::ReadAnswer;
+use model::Refusal;
+
+// A refusal's number made negative, at both widths.
+fn negative(r: Refusal) -> i32
+    ensures { λ n. ⌜ n ≡ negℤ (pos (number r)) ⌝ }
+{
+    match r {
+        Refusal::FileTooShort => -1,
+        Refusal::BadTrailer => -2,
+        Refusal::BadExtent => -3,
+        Refusal::TableTooLarge => -4,
+        Refusal::BadParentTable => -5,
+        Refusal::TooManyVisible => -6,
+        Refusal::BadParentRow => -7,
+        Refusal::UnknownTable => -8,
+        Refusal::UnknownColumn => -9,
+        Refusal::UnknownRight => -10,
+        Refusal::TooFewWords => -11,
+        Refusal::PastTheEnd => -12,
+        Refusal::RunTooShort => -13,
+        Refusal::NoList => -14,
+        Refusal::BadEntry => -15,
+        Refusal::OutputTooShort => -16,
+    }
+}
+
+fn wide_negative(r: Refusal) -> i64
+    ensures { λ n. ⌜ n ≡ negℤ (pos (number r)) ⌝ }
+{
+    negative(r) as i64
+}
+
+// 0 for a catalogue, with its tables and the sets over all targets; the two are written only then.
+#[no_mangle]
+pub extern "C" fn cagberin_check(cat: &[u8], tables: &mut u32, sets: &mut u32) -> i32
+    ensures { λ r. ⌜ r ≡ statusOf (checkMeaning (now (cat .entry))) ⌝ }
+    ensures { λ r. ⌜ now (tables .exit) ≡ valueOr 0 (now (tables .entry)) (checkMeaning (now (cat .entry))) ⌝ }
+    ensures { λ r. ⌜ now (sets .exit) ≡ valueOr 1 (now (sets .entry)) (checkMeaning (now (cat .entry))) ⌝ }
+{
+    match catalogue::check(cat) {
+        CheckAnswer::Sound { tables: t, sets: s } => {
+            *tables = t;
+            *sets = s;
+            0
+        }
+        CheckAnswer::Refused(r) => negative(r),
+    }
+}
+
+// 1 if the left side gives the right in the target table, 0 if two rows break it. Every work word is 0 after an answer.
+#[no_mangle]
+pub extern "C" fn cagberin_ask(
+    cat: &[u8],
+    target: u32,
+    left: u32,
+    right: u32,
+    work: &mut [u32],
+) -> i32
+    ensures { λ r. ⌜ r ≡ numberOf 0 (askMeaning (now (cat .entry)) target left right (length (now (work .entry)))) ⌝ }
+    ensures { λ _.
+        ⌜ now (work .exit)
+        ≡ wordsAfter (questionCode (now (cat .entry)) target left right (length (now (work .entry)))) (now (work .entry)) ⌝ }
+{
+    match dependency::ask(cat, target, left, right, work) {
+        AskAnswer::Holds => 1,
+        AskAnswer::Breaks => 0,
+        AskAnswer::Refused(r) => negative(r),
+    }
+}
+
+// 1 with two rows that break the dependency, the lower first, or 0 where it holds; the two are written only with 1. The work words as above.
+#[no_mangle]
+pub extern "C" fn cagberin_pair(
+    cat: &[u8],
+    target: u32,
+    left: u32,
+    right: u32,
+    work: &mut [u32],
+    first: &mut u32,
+    second: &mut u32,
+) -> i32
+    ensures { λ r. ⌜ PairMeaning (now (cat .entry)) target left right (length (now (work .entry)))
+        (pairSeen r (now (first .exit)) (now (second .exit))) ⌝ }
+    ensures { λ r. ⌜ ((r ≡ pos 1 → ⊥)
+        → (now (first .exit) ≡ now (first .entry)) × (now (second .exit) ≡ now (second .entry))) ⌝ }
+    ensures { λ _.
+        ⌜ now (work .exit)
+        ≡ wordsAfter (questionCode (now (cat .entry)) target left right (length (now (work .entry)))) (now (work .entry)) ⌝ }
+{
+    match dependency::pair(cat, target, left, right, work) {
+        PairAnswer::Rows {
+            first: p,
+            second: q,
+        } => {
+            *first = p;
+            *second = q;
+            1
+        }
+        PairAnswer::Nothing => 0,
+        PairAnswer::Refused(r) => negative(r),
+    }
+}
+
+// The number of entries of the packed list that ends a file, with the number of bytes in front of it, which is written only then.
+#[no_mangle]
+pub extern "C" fn cagberin_open(file: &[u8], front: &mut u64) -> i64
+    ensures { λ r. ⌜ r ≡ numberOf 0 (openMeaning (now (file .entry))) ⌝ }
+    ensures { λ r. ⌜ now (front .exit) ≡ valueOr 1 (now (front .entry)) (openMeaning (now (file .entry))) ⌝ }
+{
+    match packed::open(file) {
+        OpenAnswer::Opened {
+            entries: k,
+            front: n,
+        } => {
+            *front = n as u64;
+            k as i64
+        }
+        OpenAnswer::Refused(r) => wide_negative(r),
+    }
+}
+
+// 1 with the entry at an index of the packed list that ends a file, or 0 from its last entry on; the three are written only with 1.
+#[no_mangle]
+pub extern "C" fn cagberin_read(
+    file: &[u8],
+    index: u32,
+    target: &mut u32,
+    left: &mut u32,
+    right: &mut u32,
+) -> i32
+    ensures { λ r. ⌜ r ≡ readNumber (readAt (entriesIn (now (file .entry))) index) ⌝ }
+    ensures { λ r. ⌜ now (target .exit)
+        ≡ fieldOr (λ e. e .target) (now (target .entry)) (readAt (entriesIn (now (file .entry))) index) ⌝ }
+    ensures { λ r. ⌜ now (left .exit)
+        ≡ fieldOr (λ e. e .left) (now (left .entry)) (readAt (entriesIn (now (file .entry))) index) ⌝ }
+    ensures { λ r. ⌜ now (right .exit)
+        ≡ fieldOr (λ e. e .right) (now (right .entry)) (readAt (entriesIn (now (file .entry))) index) ⌝ }
+{
+    match packed::entry_at(file, index) {
+        ReadAnswer::Next(e) => {
+            *target = e.target as u32;
+            *left = e.left as u32;
+            *right = e.right as u32;
+            1
+        }
+        ReadAnswer::End => 0,
+    }
+}
+
+// A listing's answer as a number, the entry count; the place reached and the sets passed are written only with an answer.
+fn list_number(answer: ListAnswer, reached: &mut u32, passed: &mut u32) -> i64
+    ensures { λ r. ⌜ (listSeen r (now (reached .exit)) (now (passed .exit)) ≡ listReply answer) × ((n : ℕ) → r ≡ negsuc n
+        → (now (reached .exit) ≡ now (reached .entry)) × (now (passed .exit) ≡ now (passed .entry))) ⌝ }
+{
+    match answer {
+        ListAnswer::Listed {
+            place: p,
+            passed: k,
+            count: n,
+        } => {
+            *reached = p;
+            *passed = k;
+            n as i64
+        }
+        ListAnswer::Refused(r) => wide_negative(r),
+    }
+}
+
+// Lists from a place on: the number of entries, which stand at the start of the run, with the place reached and the sets passed. Every work
+// word is 0 after an answer and after refusal 13. A refusal alters nothing else.
+#[no_mangle]
+pub extern "C" fn cagberin_list(
+    cat: &[u8],
+    place: u32,
+    budget: u32,
+    run: &mut [Entry],
+    work: &mut [u32],
+    reached: &mut u32,
+    passed: &mut u32,
+) -> i64
+    ensures { λ r. ⌜ ListMeaning (now (cat .entry))
+        (seen place budget (now (run .entry)) (now (work .entry)) (listSeen r (now (reached .exit)) (now (passed .exit)))
+        (now (run .exit)) (now (work .exit))) × ((n : ℕ) → r ≡ negsuc n
+        → (now (reached .exit) ≡ now (reached .entry)) × (now (passed .exit) ≡ now (passed .entry))) ⌝ }
+{
+    let answer = listing::list(cat, place, budget, run, work);
+    list_number(answer, reached, passed)
+}
+
+// Packing's answer as a number, the bytes written.
+fn pack_number(answer: PackAnswer) -> i64
+    requires { ⌜ valueOr 0 0 (packReply answer) < 2 ^ 63 ⌝ }
+    ensures { λ r. ⌜ r ≡ numberOf 0 (packReply answer) ⌝ }
+{
+    match answer {
+        PackAnswer::Packed { bytes: n } => n as i64,
+        PackAnswer::Refused(r) => wide_negative(r),
+    }
+}
+
+// Packs entries into an output: the number of bytes written from its start. A refusal writes nothing.
+#[no_mangle]
+pub extern "C" fn cagberin_pack(entries: &[Entry], out: &mut [u8]) -> i64
+    ensures { λ r. ⌜ (r ≡ numberOf 0 (packMeaning (now (entries .entry)) (length (now (out .entry)))))
+        × (now (out .exit) ≡ outputAfter (now (entries .entry)) (now (out .entry))) ⌝ }
+{
+    let answer = packed::pack(entries, out);
+    pack_number(answer)
+}

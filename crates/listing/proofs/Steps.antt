@@ -1,0 +1,107 @@
+-- The walk of `list`, over plain values: where it stands before each turn, what a turn that puts an entry does to it, and what it
+-- shows when nothing is left. It looks into no definition of specs/Meaning.antt, so a change there leaves it as it is.
+use Prim.Native.Nat.{ℕ, zero, suc, _+_, _-_, _≤_, _<_}
+use native.Mathlib.Omega.{arith}
+use mathlib.Core.Path.{_≡_, refl, sym, _∙_, ap, subst}
+use mathlib.Core.List.{List, [], _∷_, _++_, append-nil, append-assoc}
+use lib.ListN.{length, replicate, drop, set, length-append, length-drop}
+use Rattle.columns.proofs.Test.{ifEq-yes, ifEq-no}
+use Rattle.model.specs.Calls.{runAfter, workAfter}
+use Rattle.model.specs.Reply.{replyOf, listReply}
+use Rattle.model.specs.declared.Entry.{Entry}
+use Rattle.model.specs.declared.ListAnswer.{ListAnswer}
+use Rattle.listing.specs.declared.Walk.{Walk}
+use Rattle.listing.specs.declared.Stepped.{Stepped}
+use Rattle.listing.specs.declared.Stepped.the-variants.{Put, Done}
+use Rattle.listing.specs.Meaning.{code as codeOf, Good}
+use Rattle.listing.specs.Steps.{due, toPut, replyTo, Kept, Moved, Begins, Went, whole, values, Listed, seen}
+use Rattle.listing.proofs.Lists.{set-next}
+
+-- words that a step left are as they must be since the call began
+pub kept-after : (cat : List ℕ) (code : ℕ) (words mid : List ℕ) (s : Stepped) (now : List ℕ) → code ≡ 0
+    → length mid ≡ length words
+    → Moved cat mid s now → Kept cat code words s now
+unfolding workAfter
+kept-after cat code words mid (Put e w) now z l m = (z, m)
+kept-after cat code words mid (Done a) now z l m = m ∙ ap (λ (k : ℕ). replicate k 0) l ∙ sym (ifEq-yes _ z)
+
+module _ (cat : List ℕ) (code : ℕ) (es : List Entry) (vs : List ℕ) (run : List Entry) (words : List ℕ) where
+  -- where the walk stands: what comes next, what is put, and the words
+  pub record Facts (s : Stepped) (put : List Entry) (now : List ℕ) : Type 0 where
+    pub all : put ++ toPut cat s ≡ due code es
+    pub fits : length (due code es) ≤ length run
+    pub reply : replyTo cat s ≡ replyOf code vs
+    pub same : length now ≡ length words
+    pub kept : Kept cat code words s now
+
+  -- the run, with what is put before what was there
+  abbrev pub runWith : List Entry → List Entry
+  runWith put = put ++ drop (length put) run
+
+  pub begun : (s : Stepped) (now : List ℕ) → Begins cat code es vs (length run) words s now
+      → length now ≡ length words → Facts s [] now
+  begun s now b l =
+      record {
+        all =
+            b .put;
+        fits = subst (λ (z : List Entry). length z ≤ length run) (b .put)
+            (b .fits);
+        reply = b .reply;
+        same = l;
+        kept = b .kept;
+      }
+
+  pub put-within : (put : List Entry) (s : Stepped) (now : List ℕ) → Facts s put now
+      → length put + length (toPut cat s) ≤ length run
+  put-within put s now f = omega (arith, length-append put (toPut cat s), ap length (f .all), f .fits)
+
+  pub runWith-length : (put : List Entry) (s : Stepped) (now : List ℕ) → Facts s put now
+      → length (runWith put) ≡ length run
+  runWith-length put s now f =
+      omega (arith, length-append put (drop (length put) run), length-drop (length put) run, put-within put s now f)
+
+  module _ (put : List Entry) (now : List ℕ) (e : Entry) (w : Walk) (f : Facts (Put e w) put now) where
+    pub room-left : length put < length run
+    room-left = omega (arith, put-within put (Put e w) now f)
+
+    pub run-next : set (runWith put) (length put) e ≡ runWith (put ++ e ∷ [])
+    run-next = set-next put run e room-left
+
+    pub one-more : length put + 1 ≡ length (put ++ e ∷ [])
+    one-more = sym (length-append put (e ∷ []))
+
+    pub nearer : length run - length (put ++ e ∷ []) < length run - length put
+    nearer = omega (arith, room-left, length-append put (e ∷ []))
+
+    pub good : Good cat w now
+    good = f .kept .1
+
+    pub goes-on : (s : Stepped) (then : List ℕ) → Went cat w now s then → length then ≡ length now
+        → Facts s (put ++ e ∷ []) then
+    goes-on s then g l =
+        record {
+          all = append-assoc put (e ∷ []) (toPut cat s) ∙ ap (λ (z : List Entry). put ++ e ∷ z) (g .put) ∙ f .all;
+          fits = f .fits;
+          reply = g .reply ∙ f .reply;
+          same = l ∙ f .same;
+          kept = kept-after cat code words now s then (f .kept .0) (f .same) (g .kept);
+        }
+
+  due-after : (c : ℕ) → runWith (due c es) ≡ runAfter c es run
+  unfolding due runAfter
+  due-after zero = ap runWith (ifEq-yes [] refl) ∙ sym (ifEq-yes run refl)
+  due-after (suc c) = ap runWith (ifEq-no es (λ e. omega arith)) ∙ sym (ifEq-no (runWith es) (λ e. omega arith))
+
+  pub written-all : (put : List Entry) (now : List ℕ) (a : ListAnswer) → Facts (Done a) put now
+      → runWith put ≡ runAfter code es run
+  written-all put now a f = ap runWith (sym (append-nil put) ∙ f .all) ∙ due-after code
+
+-- when nothing is left the call did what it must
+pub lists : (cat : List ℕ) (place budget : ℕ) (run : List Entry) (words : List ℕ) (put : List Entry) (now : List ℕ)
+    (a : ListAnswer)
+    → Facts cat (codeOf cat place budget (length run) (length words)) (whole cat place budget (length run))
+    (values cat place budget (length run))
+    run words (Done a) put now
+    → Listed cat (seen place budget run words (listReply a) (put ++ drop (length put) run) now)
+lists cat place budget run words put now a f =
+    record { reply = f .reply; run = written-all cat _ _ _ run words put now a f; work = f .kept }

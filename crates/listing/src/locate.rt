@@ -1,0 +1,81 @@
+// Where a place is: its target and its left side.
+ghost use Prim.Native.Nat.{_^_, _≤_, _<_};
+ghost use mathlib.Core.Path.{_≡_};
+ghost use lib.ListN.{getD, length};
+ghost use Rattle.columns.specs.Bound.{columnBound};
+ghost use Rattle.columns.specs.Order.{inOrder};
+ghost use Rattle.model.specs.Bounds.{workBound};
+ghost use Rattle.model.specs.Catalogue.{sets as setsOf};
+ghost use Rattle.model.specs.Check.{Accepted};
+ghost use Rattle.listing.specs.Stands.{Found};
+ghost use Rattle.listing.specs.Walks.{First};
+use crate::Walk;
+use columns::ColumnSet;
+use columns::SetOrNone;
+use columns::power;
+
+// A target, and an index in the order of its sets.
+pub struct Spot {
+    pub target: u32,
+    pub index: u32,
+}
+
+// The target of a place, and the index of the set that stands there: whole targets are passed.
+fn find(cat: &[u8], place: u32) -> Spot
+    requires { ⌜ Accepted (now cat) ⌝ }
+    requires { ⌜ place < setsOf (now cat) ⌝ }
+    ensures { λ r. ⌜ Found (now (cat .entry)) place (r .target) (r .index) ⌝ }
+{
+    let mut target: u32 = 0;
+    let mut index = place;
+    loop {
+        let here = power(catalogue::visible(cat, target));
+        if index < here {
+            return Spot {
+                target: target,
+                index: index,
+            };
+        }
+        index -= here;
+        target += 1;
+    }
+}
+
+// The set at an index of the order of n columns.
+fn set_at(n: u32, index: u32) -> u32
+    requires { ⌜ n ≤ columnBound ⌝ }
+    requires { ⌜ index < 2 ^ n ⌝ }
+    ensures { λ r. ⌜ r ≡ getD (inOrder n) index 0 ⌝ }
+{
+    match ColumnSet::at(n, index) {
+        SetOrNone::Set(s) => s.bits,
+        SetOrNone::Nothing => 0,
+    }
+}
+
+// The walk at the set that stands at a place.
+pub fn first(cat: &[u8], place: u32, budget: u32, room: usize, work: &mut [u32]) -> Walk
+    requires { ⌜ Accepted (now cat) ⌝ }
+    requires { ⌜ place < setsOf (now cat) ⌝ }
+    requires { ⌜ 0 < budget ⌝ }
+    requires { ⌜ workBound ≤ length (now work) ⌝ }
+    ensures { λ r. ⌜ First (now (cat .entry)) place budget room r (now (work .exit)) ⌝ }
+{
+    let s = find(cat, place);
+    let target = s.target;
+    let n = catalogue::visible(cat, target);
+    let left = set_at(n, s.index);
+    let mode = rights::prepare(cat, target, budget, work);
+    Walk {
+        target: target,
+        left: left,
+        members: n,
+        mode: mode,
+        place: place,
+        budget: budget,
+        room: room,
+        passed: 0,
+        count: 0,
+        pending: 0,
+    }
+}

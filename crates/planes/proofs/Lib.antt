@@ -1,0 +1,9 @@
+pub mod Bits
+pub mod Word
+pub mod Filling
+pub mod Members
+pub mod Seeds
+pub mod Plane
+pub mod Pairs
+pub mod Answers
+pub mod Cursor

@@ -1,0 +1,48 @@
+-- Planes: one bit for each left side, 32 of them in a word. What marking, selecting and closing do to the bits, and
+-- what is read off a plane. Nothing here knows of a catalogue.
+use Prim.Native.Nat.{ℕ, zero, suc, _+_, _-_, _*_, _/_, _%_, _^_, _<_}
+use mathlib.Core.Path.{_≡_}
+use mathlib.Core.List.{List}
+use lib.Bits.{bitOr}
+use lib.ListN.{set}
+use Rattle.columns.specs.Set.{bit, withoutOf}
+use Rattle.table.specs.Words.{word, Above}
+
+-- the bit of the left side x
+abbrev pub planeBit : List ℕ → ℕ → ℕ
+planeBit ws x = bit (word ws (x / 32)) (x % 32)
+
+-- the words with the bit of s set
+abbrev pub marked : List ℕ → ℕ → List ℕ
+marked ws s = set ws (s / 32) (bitOr (word ws (s / 32)) (2 ^ (s % 32)))
+
+-- the words with the bits of m left sides of a line set, one after the other, from place q on
+unfoldable pub markedFrom : List ℕ → List ℕ → ℕ → ℕ → List ℕ
+markedFrom line ws q zero = ws
+markedFrom line ws q (suc m) = markedFrom line (marked ws (word line q)) (suc q) m
+
+-- the word with a 1 at each of the 32 positions whose bit k is 0, for k below 5
+abbrev pub clearOf : ℕ → ℕ
+clearOf k = (2 ^ 32 - 1) / (2 ^ 2 ^ k + 1)
+
+-- the word at i with the bits of left sides that hold a taken away
+abbrev pub SelectedWord : ℕ → ℕ → ℕ → ℕ → Type 0
+SelectedWord i a before after = (j : ℕ) → j < 32 → bit after j ≡ bit before j - bit (i * 32 + j) a
+
+-- a word closed over the five low columns: a bit stands at x exactly if one stood at some position that is x or larger
+pub record ClosedWord (before after : ℕ) : Type 0 where
+  pub sound : (x : ℕ) → x < 32 → bit after x ≡ 1 → (s : ℕ) × (s < 32) × Above x s × (bit before s ≡ 1)
+  pub complete : (x s : ℕ) → x < 32 → s < 32 → Above x s → bit before s ≡ 1 → bit after x ≡ 1
+
+-- the plane of right a from the seeds: the bit of x is 1 exactly if some seed without a is x or larger
+pub record Filled (n a : ℕ) (seeds plane : List ℕ) : Type 0 where
+  pub sound : (x : ℕ) → x < 2 ^ n → planeBit plane x ≡ 1
+      → (s : ℕ) × (s < 2 ^ n) × Above x s × (bit s a ≡ 0) × (planeBit seeds s ≡ 1)
+  pub complete : (x s : ℕ) → x < 2 ^ n → s < 2 ^ n → Above x s → bit s a ≡ 0 → planeBit seeds s ≡ 1
+      → planeBit plane x ≡ 1
+
+-- right a is read off its plane for the left side x: it is not in x, x gives it, and x with a column less does not
+pub record Narrow (plane : List ℕ) (x a : ℕ) : Type 0 where
+  pub given : planeBit plane x ≡ 0
+  pub outside : bit x a ≡ 0
+  pub spare : (k : ℕ) → bit x k ≡ 1 → planeBit plane (withoutOf x k) ≡ 1

@@ -1,0 +1,4 @@
+pub mod Mask
+pub mod Own
+pub mod Passing
+pub mod Modes

@@ -1,0 +1,70 @@
+-- `rights::prepare` meets its contract: the table is built where a word for each left side is lent.
+use Prim.Native.Nat.{ℕ, _^_, _≤_}
+use mathlib.Core.Path.{_≡_, ap, subst, _∙_}
+use mathlib.Core.List.{List}
+use native.Mathlib.Omega.{arith}
+use denote.Ref.{now}
+use Rattle.model.specs.Catalogue.{visible}
+use Rattle.model.proofs.Check.{accepted-visible}
+use Rattle.rights.proofs.Modes.{ready-pass, ready-table}
+use borrow.Author.Needs.{needs}
+use Rattle.rights.proofs.prepare.Statement.{statement}
+use Rattle.rights.proofs.prepare.Tie as tie
+
+-- a word for each left side
+enough : (b : List ℕ) (t n p : ℕ) {l : ℕ} → n ≡ visible b t → p ≡ 2 ^ n → p ≤ l → 2 ^ visible b t ≤ l
+enough b t n p {l} e f h = subst (λ (m : ℕ). m ≤ l) (f ∙ ap (λ (k : ℕ). 2 ^ k) e) h
+
+kept : (k : ℕ) {l m : ℕ} → 2 ^ k ≤ l → m ≡ l → 2 ^ k ≤ m
+kept k h e = omega arith
+
+returns : tie.Need-returns
+returns c = ready-pass _ _ _
+
+visible-requires : tie.Need-visible-requires
+visible-requires c κs = search needs
+
+power-requires : tie.Need-power-requires
+power-requires c κs =
+    let s = c .before .before .before .before in
+    omega (arith, c .visible .ensures, accepted-visible (now (s .args .cat)) (s .pre .0) (s .args .target) (s .pre .1 .0))
+
+cast-if2 : tie.Need-cast-if2
+cast-if2 c = search needs
+
+returns-2 : tie.Need-returns-2
+returns-2 c = ready-pass _ _ _
+
+build-requires : tie.Need-build-requires
+build-requires c κs =
+    let s = c .before .before .before .before .before .before .before in
+    (s .pre .0, (s .pre .1 .0, enough _ _ _ _ (c .before .before .before .visible .ensures) (c .before .before .power .ensures) (c .before .if2 .left)))
+
+own-mask-requires : tie.Need-own-mask-requires
+own-mask-requires c κs = search needs
+
+same-length : tie.Need-same-length
+same-length c = search needs
+
+returns-3 : tie.Need-returns-3
+returns-3 c =
+    ready-table _ _ _ _
+    (kept _ (enough _ _ _ _ (c .before .before .before .before .before .before .before .visible .ensures)
+    (c .before .before .before .before .before .before .power .ensures) (c .before .before .before .before .before .if2 .left))
+    (c .before .before .before .build .kept .1 .1 .0))
+    (c .before .before .before .build .ensures)
+    (c .own-mask .ensures)
+
+pub prepare-spec : {M : Type 1} → statement M
+prepare-spec =
+    tie.close
+    (tie.spec
+    returns
+    visible-requires
+    power-requires
+    cast-if2
+    returns-2
+    build-requires
+    own-mask-requires
+    same-length
+    returns-3)

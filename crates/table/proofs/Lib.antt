@@ -1,0 +1,5 @@
+pub mod Bits
+pub mod Closing
+pub mod Reading
+pub mod Scan
+pub mod Table

@@ -1,0 +1,45 @@
+-- Words, one for each left side: numbers by their bits, what closing the words over larger left sides means, and the
+-- rights that are read off them. Nothing here knows of a catalogue.
+use Prim.Native.Nat.{ℕ, zero, suc, _+_, _^_, _≤_, _<_}
+use mathlib.Core.Path.{_≡_}
+use mathlib.Core.Bool.{Bool}
+use mathlib.Core.List.{List}
+use lib.ListN.{length, getD}
+use lib.Bits.{bitOr, bitAnd, bitXor}
+use Rattle.columns.specs.Set.{bit, withoutOf}
+use Rattle.columns.specs.Test.{pick}
+
+-- the word at x; past the end it is 0
+abbrev pub word : List ℕ → ℕ → ℕ
+word ws x = getD ws x 0
+
+-- the left side s is x or larger: each member of x is one of s
+abbrev pub Above : ℕ → ℕ → Type 0
+Above x s = (k : ℕ) → bit x k ≡ 1 → bit s k ≡ 1
+
+-- the bits of x that are not bits of y
+abbrev pub lackingOf : ℕ → ℕ → ℕ
+lackingOf x y = bitXor x (bitAnd x y)
+
+-- one column joined: each of the first 2 ^ n words has got the bits of the word at its left side with column k
+pub record Joined (n k : ℕ) (before after : List ℕ) : Type 0 where
+  pub same-length : length after ≡ length before
+  pub joined : (y : ℕ) → y < 2 ^ n → word after y ≡ bitOr (word before y) (word before (bitOr y (2 ^ k)))
+  pub past : (y : ℕ) → 2 ^ n ≤ y → word after y ≡ word before y
+
+-- all n columns joined: a bit stands in the word of x exactly if it stood in that of some left side that is x or larger
+pub record Closed (n : ℕ) (before after : List ℕ) : Type 0 where
+  pub same-length : length after ≡ length before
+  pub sound : (x a : ℕ) → x < 2 ^ n → bit (word after x) a ≡ 1
+      → (s : ℕ) × (s < 2 ^ n) × Above x s × (bit (word before s) a ≡ 1)
+  pub complete : (x s a : ℕ) → x < 2 ^ n → s < 2 ^ n → Above x s → bit (word before s) a ≡ 1
+      → bit (word after x) a ≡ 1
+  pub past : (y : ℕ) → 2 ^ n ≤ y → word after y ≡ word before y
+
+-- right a is read off the words for the left side x: it is asked for and not in x, x gives it, and x with a column
+-- less does not
+pub record Read (ws : List ℕ) (x own a : ℕ) : Type 0 where
+  pub asked : bit own a ≡ 1
+  pub outside : bit x a ≡ 0
+  pub given : bit (word ws x) a ≡ 0
+  pub spare : (k : ℕ) → bit x k ≡ 1 → bit (word ws (withoutOf x k)) a ≡ 1

@@ -1,0 +1,73 @@
+// The table of broken rights: one word for each left side, bit a for right a. A scan notes what each agree set
+// breaks, `close` carries it to every smaller left side, and `minimal_rights` reads a left side's rights off the
+// closed words.
+// Relies on the definitions of `model` and `columns`. Called by `listing`.
+ghost use Prim.Native.Nat.{ℕ, _^_, _≤_, _<_};
+ghost use mathlib.Core.Path.{_≡_};
+ghost use mathlib.Core.Logic.{_↔_};
+ghost use lib.ListN.{length, getD, set};
+ghost use lib.Bits.{bitOr};
+ghost use Rattle.columns.specs.Set.{bit};
+ghost use Rattle.table.specs.Words.{word, lackingOf, Joined, Closed, Read};
+use columns::power;
+
+// Puts the bits of a mask into the word at s.
+pub fn note(words: &mut [u32], s: u32, mask: u32)
+    requires { ⌜ s < length (now words) ⌝ }
+    ensures { λ r. ⌜ now (words .exit) ≡ set (now (words .entry)) s (bitOr (word (now (words .entry)) s) mask) ⌝ }
+{
+    let i = s as usize;
+    words[i] = words[i] | mask;
+}
+
+// Joins one column: each word gets the bits of the word at its left side with column k.
+fn join_column(words: &mut [u32], n: u32, k: u32)
+    requires { ⌜ (n < 32) × (2 ^ n ≤ length (now words)) × (k < n) ⌝ }
+    ensures { λ r. ⌜ Joined n k (now (words .entry)) (now (words .exit)) ⌝ }
+{
+    let end = power(n) as usize;
+    let column = power(k) as usize;
+    let mut x = 0;
+    while x < end {
+        words[x] = words[x] | words[x | column];
+        x += 1;
+    }
+}
+
+// Closes the words over larger left sides, column by column: what a left side does not give, no smaller one gives.
+pub fn close(words: &mut [u32], n: u32)
+    requires { ⌜ (n < 32) × (2 ^ n ≤ length (now words)) ⌝ }
+    ensures { λ r. ⌜ Closed n (now (words .entry)) (now (words .exit)) ⌝ }
+{
+    let mut k = 0;
+    while k < n {
+        join_column(words, n, k);
+        k += 1;
+    }
+}
+
+// The bits of x that are not bits of y.
+fn lacking(x: u32, y: u32) -> u32
+    ensures { λ r. ⌜ r ≡ lackingOf x y ⌝ }
+{
+    x ^ (x & y)
+}
+
+// The rights asked for, as a mask, that are minimal for the left side x by the closed words. It goes over the members
+// of x, the lowest first, and ends early once no right is left.
+pub fn minimal_rights(words: &[u32], x: u32, own: u32) -> u32
+    requires { ⌜ x < length (now words) ⌝ }
+    ensures { λ r. ⌜ ((a : ℕ) → (bit r a ≡ 1) ↔ Read (now (words .entry)) x own a) ⌝ }
+{
+    let mut rights = lacking(lacking(own, x), words[x as usize]);
+    let mut rest = x;
+    while rest != 0 {
+        if rights == 0 {
+            return 0;
+        }
+        let above = rest & (rest - 1);
+        rights = rights & words[(x - (rest - above)) as usize];
+        rest = above;
+    }
+    rights
+}

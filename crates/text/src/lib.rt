@@ -1,0 +1,96 @@
+// What the programs print: a refusal's number, and words, decimal numbers and entry lines, put into lent bytes at a position and written to
+// standard output in one go. Each answers the position behind what it put; what does not fit is left out.
+// Relies on the types of `model` and on `io` for digits. Called by the programs.
+ghost use mathlib.Core.Path.{_≡_};
+ghost use mathlib.Core.List.{[], _∷_};
+ghost use Rattle.model.specs.Refusal.{number as Refusal·number};
+ghost use Rattle.text.specs.Text.{Puts, PutsA, Decimal, RightText, EntryText};
+use libc::STDOUT_FILENO;
+use model::Entry;
+use model::ROW;
+use model::Refusal;
+
+// The document's number of a refusal.
+pub fn number(why: Refusal) -> u32
+    ensures { λ r. ⌜ r ≡ Refusal·number why ⌝ }
+{
+    match why {
+        Refusal::FileTooShort => 1,
+        Refusal::BadTrailer => 2,
+        Refusal::BadExtent => 3,
+        Refusal::TableTooLarge => 4,
+        Refusal::BadParentTable => 5,
+        Refusal::TooManyVisible => 6,
+        Refusal::BadParentRow => 7,
+        Refusal::UnknownTable => 8,
+        Refusal::UnknownColumn => 9,
+        Refusal::UnknownRight => 10,
+        Refusal::TooFewWords => 11,
+        Refusal::PastTheEnd => 12,
+        Refusal::RunTooShort => 13,
+        Refusal::NoList => 14,
+        Refusal::BadEntry => 15,
+        Refusal::OutputTooShort => 16,
+    }
+}
+
+// A byte.
+pub fn put_byte(out: &mut [u8], at: usize, x: u8) -> usize
+    ensures { λ r. ⌜ Puts (x ∷ []) at (now (out .entry)) (now (out .exit)) r ⌝ }
+{
+    if at < out.len() {
+        out[at] = x;
+        return at + 1;
+    }
+    at
+}
+
+// The bytes of a word.
+pub fn put_word(out: &mut [u8], at: usize, word: &[u8]) -> usize
+    ensures { λ r. ⌜ Puts (now (word .entry)) at (now (out .entry)) (now (out .exit)) r ⌝ }
+{
+    let mut next = at;
+    let mut i = 0;
+    while i < word.len() {
+        next = put_byte(out, next, word[i]);
+        i += 1;
+    }
+    next
+}
+
+// A number in decimal.
+pub fn put_number(out: &mut [u8], at: usize, x: u64) -> usize
+    ensures { λ r. ⌜ PutsA (Decimal x) at (now (out .entry)) (now (out .exit)) r ⌝ }
+{
+    let mut digits = [0u8; 20];
+    let k = io::decimal(x, &mut digits);
+    put_word(out, at, &digits[..k])
+}
+
+// The right side of an entry: its number, or `row`.
+fn put_right(out: &mut [u8], at: usize, right: u8) -> usize
+    ensures { λ r. ⌜ PutsA (RightText right) at (now (out .entry)) (now (out .exit)) r ⌝ }
+{
+    if right as u32 == ROW {
+        return put_word(out, at, b"row");
+    }
+    put_number(out, at, right as u64)
+}
+
+// An entry: target, left side and right side, parted by one space.
+pub fn put_entry(out: &mut [u8], at: usize, e: Entry) -> usize
+    ensures { λ r. ⌜ PutsA (EntryText e) at (now (out .entry)) (now (out .exit)) r ⌝ }
+{
+    let mut next = put_number(out, at, e.target as u64);
+    next = put_byte(out, next, b' ');
+    next = put_number(out, next, e.left as u64);
+    next = put_byte(out, next, b' ');
+    put_right(out, next, e.right)
+}
+
+// Writes the first n bytes to standard output.
+pub fn write(out: &[u8], n: usize) {
+    if n <= out.len() {
+        io::write_all(STDOUT_FILENO, &out[..n]);
+    }
+}

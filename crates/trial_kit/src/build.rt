@@ -1,0 +1,104 @@
+// Catalogues of many columns, rows or tables, written into lent bytes. Each function answers the position behind what it wrote; what does not
+// fit is left out.
+
+// One byte at a position.
+fn put(b: &mut [u8], at: usize, x: u8) -> usize {
+    if at < b.len() {
+        b[at] = x;
+        return at + 1;
+    }
+    at
+}
+
+// A 2-byte number, and a 4-byte number.
+fn put2(b: &mut [u8], at: usize, x: u32) -> usize {
+    let next = put(b, at, (x % 256) as u8);
+    put(b, next, (x / 256 % 256) as u8)
+}
+
+fn put4(b: &mut [u8], at: usize, x: u32) -> usize {
+    let next = put2(b, at, x % 65536);
+    put2(b, next, x / 65536)
+}
+
+// A position as a 4-byte number.
+fn offset(at: usize) -> u32 {
+    (at % 65536) as u32 + 65536 * ((at / 65536 % 65536) as u32)
+}
+
+// The n codes of a row: the first, and then 5 in every other column.
+fn codes(b: &mut [u8], at: usize, n: u32, first: u32) -> usize {
+    let mut next = at;
+    let mut code = first;
+    let mut k = 0;
+    while k < n {
+        next = put4(b, next, code);
+        code = 5;
+        k += 1;
+    }
+    next
+}
+
+// A table of n columns and r rows. Row k is under row k of the parent, and has the code k in its first column if `distinct`.
+fn table(b: &mut [u8], at: usize, n: u32, parent: u32, r: u32, distinct: bool) -> usize {
+    let mut next = put2(b, at, n);
+    next = put2(b, next, parent);
+    next = put2(b, next, r);
+    let mut k = 0;
+    while k < r {
+        let up = if parent == 65535 { parent } else { k };
+        next = put2(b, next, up);
+        let first = if distinct { k } else { 5 };
+        next = codes(b, next, n, first);
+        k += 1;
+    }
+    next
+}
+
+// The trailer's end: how many tables, and where the trailer starts.
+fn finish(b: &mut [u8], at: usize, tables: u32, start: usize) -> usize {
+    let next = put2(b, at, tables);
+    put4(b, next, offset(start))
+}
+
+// One table of n columns and r rows, whose first column is a key.
+pub fn flat(b: &mut [u8], n: u32, r: u32) -> usize {
+    let end = table(b, 0, n, 65535, r, true);
+    let next = put4(b, end, 0);
+    finish(b, next, 1, end)
+}
+
+// Two tables of so many columns, each with one row, the second under the first.
+pub fn two(b: &mut [u8], first: u32, second: u32) -> usize {
+    let middle = table(b, 0, first, 65535, 1, true);
+    let end = table(b, middle, second, 0, 1, true);
+    let mut next = put4(b, end, 0);
+    next = put4(b, next, offset(middle));
+    finish(b, next, 2, end)
+}
+
+// So many tables of one column and r rows, each under the one before; the root's column is a key.
+pub fn deep(b: &mut [u8], tables: u32, r: u32) -> usize {
+    let mut next = table(b, 0, 1, 65535, r, true);
+    let mut i: u32 = 1;
+    while i < tables {
+        next = table(b, next, 1, i - 1, r, false);
+        i += 1;
+    }
+    let start = next;
+    next = offsets(b, next, tables, 6 + 6 * (r % 65536));
+    finish(b, next, tables, start)
+}
+
+// So many offsets from 0 on, so far apart.
+fn offsets(b: &mut [u8], at: usize, tables: u32, apart: u32) -> usize {
+    let mut next = at;
+    let mut o: u32 = 0;
+    let mut i: u32 = 0;
+    while i < tables {
+        next = put4(b, next, o);
+        o = (o + apart % 16777216) % 16777216;
+        i += 1;
+    }
+    next
+}
