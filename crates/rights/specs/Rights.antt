@@ -1,6 +1,6 @@
 -- The listed rights of one left side as a number, and the entries that such a number stands for. Where n columns are visible, bit a of the
 -- number stands for column a, and bit n for the row.
-use Prim.Native.Nat.{ℕ, zero, suc, _-_, _^_, _≤_}
+use Prim.Native.Nat.{ℕ, zero, suc, _-_, _^_, _≤_, _<_}
 use mathlib.Core.Path.{_≡_}
 use mathlib.Core.List.{List, [], _∷_}
 use mathlib.Core.Bool.{Bool, _&&_}
@@ -16,6 +16,7 @@ use Rattle.model.specs.Entry.{entry}
 use Rattle.model.specs.declared.Entry.{Entry}
 use Rattle.columns.specs.Set.{setBelow}
 use Rattle.table.specs.Broken.{Table}
+use Rattle.planes.specs.Cache.{Roomy, Ready as Cached}
 -- the right side that bit a stands for
 unfoldable pub use Rattle.table.specs.Broken.{rightAt}
 
@@ -47,7 +48,22 @@ pub record Tabled (b : List ℕ) (t mode : ℕ) (words : List ℕ) : Type 0 wher
   pub table : Table (view b t) words
   pub own : mode ≡ 2 ^ suc (visible b t) - 2 ^ inherited b t
 
--- the work words are as `prepare` and `rights` leave them for target t: in mode 0 they are not used, in any other they hold its table.
--- Callers carry it along and never look inside
+-- from this mode on the work words hold seeds and a cache, and the mask of rights is added to it
+abbrev pub narrowMode : ℕ
+narrowMode = 2147483648
+
+-- the work words hold the seeds of target t and a cache of rights, for the mask of its rights
+pub record Narrowed (b : List ℕ) (t own : ℕ) (words : List ℕ) : Type 0 where
+  pub wide : 5 ≤ visible b t
+  pub roomy : Roomy (visible b t) words
+  pub cached : Cached (view b t) (visible b t) own words
+  pub own-mask : own ≡ 2 ^ suc (visible b t) - 2 ^ inherited b t
+
+-- the work words are as `prepare` and `rights` leave them for target t: in mode 0 they are not used, in a low mode they hold its table, and
+-- in a high one its seeds. Callers carry it along and never look inside
+pub record ReadyIn (b : List ℕ) (t mode : ℕ) (words : List ℕ) : Type 0 where
+  pub tabled : (mode ≡ 0 → ⊥) → mode < narrowMode → Tabled b t mode words
+  pub narrowed : narrowMode ≤ mode → Narrowed b t (mode - narrowMode) words
+
 unfoldable pub Ready : List ℕ → ℕ → ℕ → List ℕ → Type 0
-Ready b t mode words = (mode ≡ 0 → ⊥) → Tabled b t mode words
+Ready b t mode words = ReadyIn b t mode words

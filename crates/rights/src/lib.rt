@@ -1,6 +1,6 @@
 // The listed rights of one left side, for the listing call. `prepare` is called where a call enters a target, then `rights` for each left
 // side of it; what the two keep in the work words between calls is theirs alone.
-// Relies on `catalogue` for agree sets and on `scan` and `table` for the table of broken rights. Called by `listing`.
+// Relies on `catalogue` for agree sets and on `scan`, `table` and `planes` for what the words hold. Called by `listing`.
 mod pass;
 
 ghost use mathlib.Core.Path.{_≡_};
@@ -13,11 +13,14 @@ ghost use Rattle.rights.specs.Rights.{rightAt, rightsMask, Ready};
 use columns::power;
 use pass::set_rights;
 
-// The mode in which the work words are not used, and each left side takes one pass over the pairs of rows. In any other they hold the table of
-// broken rights, a word for each left side, and the mode is the mask of the target's rights.
+// The mode in which the work words are not used, and each left side takes one pass over the pairs of rows. In any other the mode is made
+// of the mask of the target's rights: below NARROW it is that mask, and the words hold the table of broken rights, a word for each left side;
+// from NARROW on the mask is added to it, and the words hold a bit for each agree set and the rights of some left sides.
 const BY_PASS: u32 = 0;
 
-// From how many sets on a table pays: it costs one pass too, and the closing.
+const NARROW: u32 = 2147483648;
+
+// From how many sets on the words pay: they cost one pass too, and the closing.
 const TABLE_PAYS: u32 = 2;
 
 // Makes the work words ready for a target of which so many sets can still be passed, and answers how they are used.
@@ -30,8 +33,10 @@ pub fn prepare(cat: &[u8], target: u32, useful: u32, work: &mut [u32]) -> u32
     if useful < TABLE_PAYS {
         return BY_PASS;
     }
-    if work.len() < power(catalogue::visible(cat, target)) as usize {
-        return BY_PASS;
+    let n = catalogue::visible(cat, target);
+    if work.len() < power(n) as usize {
+        scan::sow(cat, target, work);
+        return NARROW + own_mask(cat, target);
     }
     scan::build(cat, target, work);
     own_mask(cat, target)
@@ -66,8 +71,11 @@ pub fn rights(cat: &[u8], target: u32, left: u32, mode: u32, work: &mut [u32]) -
     ensures { λ r. ⌜ r ≡ rightsMask (now (cat .entry)) target left ⌝ }
     ensures { λ _. ⌜ Ready (now (cat .entry)) target mode (now (work .exit)) ⌝ }
 {
-    if mode != BY_PASS {
+    if mode == BY_PASS {
+        return set_rights(cat, target, left, own_mask(cat, target));
+    }
+    if mode < NARROW {
         return table::minimal_rights(work, left, mode);
     }
-    set_rights(cat, target, left, own_mask(cat, target))
+    planes::rights_from(work, catalogue::visible(cat, target), mode - NARROW, left)
 }

@@ -2,3 +2,4 @@ pub mod Put
 pub mod Lines
 pub mod Notes
 pub mod Scanning
+pub mod Sowing

@@ -24,6 +24,14 @@ pub inherited-le : (b : List ℕ) (t : ℕ) → inherited b t ≤ visible b t
 unfolding inherited
 inherited-le b t = omega arith
 
+-- a line by all columns holds the agree sets of its row
+pub line-agree-sets : {b : List ℕ} {t n x from end : ℕ} {cols line : List ℕ} → n ≡ visible b t → end ≡ rows b t → x < end
+    → Laid b t n cols → Line cols n x from end line
+    → (j : ℕ) → from ≤ j → j < end → word line j ≡ agreeSetOf (view b t) x j
+line-agree-sets {b} {t} {x = x} {cols = cols} e r l laid is-line j k m =
+    is-line .sets j k m ∙ ap (λ (n : ℕ). setBelow n (sameAt cols x j)) e
+    ∙ laid-agree-set b t cols x j (subst (λ (k : ℕ). Laid b t k cols) e laid) (omega arith) (omega arith)
+
 -- the scan has come to row x: the pairs of the rows before it are noted
 pub record Scanning (b : List ℕ) (t n x : ℕ) (cols before words : List ℕ) : Type 0 where
   pub laid : Laid b t n cols
@@ -54,19 +62,12 @@ scanning-more {b} {t} {n} {x} {end} {cols} {before} {words} line after e r l eno
     v : View
     v = view b t
 
-    laid : Laid b t (visible b t) cols
-    laid = subst (λ (k : ℕ). Laid b t k cols) e (h .laid)
-
-    sets : (j : ℕ) → x + 1 ≤ j → j < x + 1 + (end - (x + 1)) → word line j ≡ agreeSetOf v x j
-    sets j k m =
-        is-line .sets j k (omega arith) ∙ ap (λ (n : ℕ). setBelow n (sameAt cols x j)) e
-        ∙ laid-agree-set b t cols x j laid (omega arith) (omega arith)
-
     passed : GivenBy v (PairBefore v x (x + 1 + (end - (x + 1)))) after
     passed =
         subst (λ (ws : List ℕ). GivenBy v (PairBefore v x (x + 1 + (end - (x + 1)))) ws)
         (ap (λ (n : ℕ). notedFrom n line words (x + 1) (end - (x + 1))) (sym e) ∙ sym (noted .noted))
-        (scan-line v line words x (x + 1) (end - (x + 1)) (omega arith) (omega arith) sets
+        (scan-line v line words x (x + 1) (end - (x + 1)) (omega arith) (omega arith)
+        (λ j k m. line-agree-sets e r l (h .laid) is-line j k (omega arith))
         (subst (λ (k : ℕ). 2 ^ k ≤ length words) e (omega (arith, h .long))) (h .given))
 
 pub scanning-done : {b : List ℕ} {t n x end : ℕ} {cols before words : List ℕ} → end ≡ rows b t → end ≤ x

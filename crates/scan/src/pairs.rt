@@ -22,7 +22,7 @@ use columns::power;
 use table::close;
 
 // Empties the first 2 to the power n words.
-fn clear(words: &mut [u32], n: u32)
+pub fn clear(words: &mut [u32], n: u32)
     requires { ⌜ (n ≤ columnBound) × (2 ^ n ≤ length (now words)) ⌝ }
     ensures { λ _. ⌜ (length (now (words .exit)) ≡ length (now (words .entry))) × Zero 0 (2 ^ n) (now (words .exit)) ⌝ }
 {
