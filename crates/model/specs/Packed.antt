@@ -11,6 +11,7 @@ use Rattle.model.specs.Bytes.{byteAt, u16At, u32At, bytes2, bytes4}
 use Rattle.model.specs.Refusal.{number, orElse}
 use Rattle.model.specs.Reply.{Reply, replyOf}
 use Rattle.model.specs.Entry.{earlier}
+use Rattle.model.specs.Calls.{runAfter}
 use Rattle.model.specs.declared.Entry.{Entry}
 use Rattle.model.specs.declared.ReadAnswer.{ReadAnswer}
 use Rattle.model.specs.declared.ReadAnswer.the-variants.{Next, End}
@@ -102,6 +103,23 @@ readCode b = orElse (listCode b) (entriesCode (entriesIn b))
 
 unfoldable pub openMeaning : List ℕ → Reply
 openMeaning b = replyOf (readCode b) (countIn b ∷ (length b - distanceIn b) ∷ [])
+
+-- what may be read of a file: its entries and the part in front; no entry and no byte where it is refused
+unfoldable pub entriesRead : List ℕ → List Entry
+entriesRead b = ifEq (readCode b) 0 (entriesIn b) []
+
+unfoldable pub frontRead : List ℕ → List ℕ
+frontRead b = ifEq (readCode b) 0 (frontOf b) []
+
+-- reading from an index on into a run: as many entries as it has records, and the run afterwards, its other records untouched
+unfoldable pub readFrom : List ℕ → ℕ → ℕ → List Entry
+readFrom b from room = take room (drop from (entriesRead b))
+
+unfoldable pub readMeaning : List ℕ → ℕ → ℕ → Reply
+readMeaning b from room = replyOf (readCode b) (length (readFrom b from room) ∷ [])
+
+unfoldable pub runRead : List ℕ → ℕ → List Entry → List Entry
+runRead b from run = runAfter (readCode b) (readFrom b from (length run)) run
 
 -- the entry at a position of a list, and 'end' from its last entry on
 unfoldable pub readAt : List Entry → ℕ → ReadAnswer

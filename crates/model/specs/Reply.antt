@@ -16,6 +16,8 @@ use Rattle.model.specs.declared.PackAnswer.{PackAnswer}
 use Rattle.model.specs.declared.PackAnswer.the-variants as pack-answer
 use Rattle.model.specs.declared.OpenAnswer.{OpenAnswer}
 use Rattle.model.specs.declared.OpenAnswer.the-variants as open-answer
+use Rattle.model.specs.declared.EntriesAnswer.{EntriesAnswer}
+use Rattle.model.specs.declared.EntriesAnswer.the-variants as entries-answer
 
 pub data Reply : Type 0 where
   refused : ℕ → Reply
@@ -60,3 +62,8 @@ packReply (pack-answer.Refused r) = refused (number r)
 abbrev pub openReply : OpenAnswer → Reply
 openReply (open-answer.Opened k n) = answered (k ∷ n ∷ [])
 openReply (open-answer.Refused r) = refused (number r)
+
+-- the number of entries read
+abbrev pub entriesReply : EntriesAnswer → Reply
+entriesReply (entries-answer.Read k) = answered (k ∷ [])
+entriesReply (entries-answer.Refused r) = refused (number r)

@@ -86,3 +86,9 @@ pub enum ReadAnswer {
     Next(Entry),
     End,
 }
+
+// How many entries of a packed list were read into a lent run.
+pub enum EntriesAnswer {
+    Read { count: usize },
+    Refused(Refusal),
+}
