@@ -18,8 +18,8 @@ use Rattle.model.specs.View.{View, Breaks, agreeOn, agreeRight}
 use Rattle.model.specs.Target.{view, agreeAt}
 use Rattle.model.proofs.Truth.{true-is, false-is, and-is, not-is}
 use Rattle.model.proofs.View.{agreeOn-is}
-use Rattle.catalogue.specs.AgreeSet.{agreeSet}
-use Rattle.catalogue.proofs.Agreement.{agreeOn-test, agreeRight-test}
+use Rattle.agreement.specs.AgreeSet.{agreeSet}
+use Rattle.agreement.proofs.Agreement.{agreeOn-test, agreeRight-test}
 use Rattle.dependency.specs.Pairs.{broken, Clear}
 
 -- the test of a pair, for any view

@@ -21,7 +21,7 @@ use Rattle.model.specs.Target.{view}
 use Rattle.model.proofs.Grounds.{orElse-left, orElse-right, ifLt-passes, ifLt-fails, ifEq-le, ifLt-le, orElse-le}
 use Rattle.model.proofs.Target.{view-equivalence}
 use Rattle.model.proofs.View.{true-holds, no-breaks-holds, breaks-holds-false}
-use Rattle.catalogue.proofs.Sound.{check-code-le}
+use Rattle.layout.proofs.Sound.{check-code-le}
 use Rattle.dependency.specs.Pairs.{Posed}
 
 module _ (b : List ℕ) (t x a w : ℕ) where

@@ -1,5 +1,5 @@
 // The technician's two questions about a dependency: does it hold, and if not, which two rows break it?
-// Relies on `catalogue` for the check and for the agreement of two rows. Called by `listing` and by programs.
+// Relies on `layout` for the check's grounds and on `agreement` for the agreement of two rows. Called by hosts and programs.
 ghost use mathlib.Core.Path.{_≡_};
 ghost use lib.ListN.{length};
 ghost use Rattle.model.specs.Question.{questionCode, askMeaning, PairMeaning};
@@ -8,13 +8,13 @@ ghost use Rattle.model.specs.Reply.{askReply, pairReply, wordsAfter};
 mod question;
 mod search;
 
-use catalogue::refusal;
-use catalogue::zero_words;
+use layout::refusal;
+use lent::zero_words;
 use model::AskAnswer;
 use model::PairAnswer;
-pub use question::question_code;
-pub use search::Found;
-pub use search::breaking_pair;
+use question::question_code;
+use search::Found;
+use search::breaking_pair;
 
 // Does the left side give the right side in the target table? Every work word is 0 after an answer, and none is altered by a refusal.
 pub fn ask(cat: &[u8], target: u32, left: u32, right: u32, work: &mut [u32]) -> AskAnswer

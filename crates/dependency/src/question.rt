@@ -1,14 +1,14 @@
 // The refusals of a question: those of the check, then 8 to 11, by number. A ground's code is the refusal's number, or 0 where there is none.
 ghost use mathlib.Core.Path.{_≡_};
 ghost use Rattle.model.specs.Question.{targetCode, leftSideCode, rightSideCode, wordsCode, questionCode};
-use catalogue::TOO_FEW_WORDS;
-use catalogue::UNKNOWN_COLUMN;
-use catalogue::UNKNOWN_RIGHT;
-use catalogue::UNKNOWN_TABLE;
-use catalogue::check_code;
-use catalogue::inherited;
-use catalogue::tables;
-use catalogue::visible;
+use layout::TOO_FEW_WORDS;
+use layout::UNKNOWN_COLUMN;
+use layout::UNKNOWN_RIGHT;
+use layout::UNKNOWN_TABLE;
+use layout::check_code;
+use layout::inherited;
+use layout::tables;
+use layout::visible;
 use model::ROW;
 use model::WORK_BOUND;
 

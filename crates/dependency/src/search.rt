@@ -4,9 +4,9 @@ ghost use Prim.Native.Nat.{_<_};
 ghost use Rattle.model.specs.Catalogue.{rows as rowsOf, visible as visibleOf};
 ghost use Rattle.model.specs.Target.{view};
 ghost use Rattle.dependency.specs.Pairs.{Posed, broken, FirstBreaking};
-use catalogue::agree_set_of;
-use catalogue::rows;
-use catalogue::visible;
+use agreement::agree_set_of;
+use layout::rows;
+use layout::visible;
 use model::ROW;
 
 // Two rows that break a dependency, the lower first, or that there are none.

@@ -21,7 +21,7 @@ use Rattle.model.proofs.Grounds.{orElse-next, orElse-first}
 use Rattle.model.proofs.Calls.{passed-spent, written-spent, passed-end-at, written-end-at, call-few, call-past, call-short, call-none}
 use Rattle.model.proofs.Stops.{written-fits}
 use Rattle.model.proofs.Listing.{cells-length}
-use Rattle.catalogue.proofs.Sound.{check-code-le}
+use Rattle.layout.proofs.Sound.{check-code-le}
 use Rattle.listing.specs.Meaning.{cellsOf, code, ahead, final}
 use Rattle.listing.specs.Steps.{due, Began, Went, whole, values}
 use Rattle.listing.specs.Walks.{First, Passes, cellOf}

@@ -1,6 +1,6 @@
 // The listing call: entries are put into a lent run of records, one after the other, as a covered step says.
 // `begin` and `step` decide everything, keep the work words and look at no record; `list` stores what they say and counts.
-// Relies on `rights` for the listed rights of one set and on `catalogue` for the check.
+// Relies on `rights` for the listed rights of one set and on `layout` for the check's grounds. Called by hosts and programs.
 mod locate;
 mod onward;
 mod put;
@@ -11,10 +11,10 @@ ghost use Rattle.model.specs.List.{ListMeaning};
 ghost use Rattle.listing.specs.Meaning.{Good};
 ghost use Rattle.listing.specs.Steps.{Began, Went, seen};
 ghost use Rattle.listing.specs.Filled.{cap, FilledBy};
-use catalogue::check_code;
-use catalogue::refusal;
-use catalogue::sets;
-use catalogue::zero_words;
+use layout::check_code;
+use layout::refusal;
+use layout::sets;
+use lent::zero_words;
 use locate::first;
 use model::Entry;
 use model::ListAnswer;

@@ -29,7 +29,7 @@ fn find(cat: &[u8], place: u32) -> Spot
     let mut target: u32 = 0;
     let mut index = place;
     loop {
-        let here = power(catalogue::visible(cat, target));
+        let here = power(layout::visible(cat, target));
         if index < here {
             return Spot {
                 target: target,
@@ -63,7 +63,7 @@ pub fn first(cat: &[u8], place: u32, budget: u32, room: usize, work: &mut [u32])
 {
     let s = find(cat, place);
     let target = s.target;
-    let n = catalogue::visible(cat, target);
+    let n = layout::visible(cat, target);
     let left = set_at(n, s.index);
     let mode = rights::prepare(cat, target, budget, work);
     Walk {

@@ -56,7 +56,7 @@ fn following(cat: &[u8], w: Walk, work: &mut [u32]) -> Reached
         }),
         SetOrNone::Nothing => {
             let target = w.target + 1;
-            let n = catalogue::tables(cat) as u32;
+            let n = layout::tables(cat) as u32;
             if n <= target {
                 return Reached::Stop;
             }
@@ -64,7 +64,7 @@ fn following(cat: &[u8], w: Walk, work: &mut [u32]) -> Reached
             Reached::At(Walk {
                 target: target,
                 left: 0,
-                members: catalogue::visible(cat, target),
+                members: layout::visible(cat, target),
                 mode: mode,
                 place: w.place,
                 budget: w.budget,

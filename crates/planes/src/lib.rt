@@ -1,6 +1,6 @@
-// Planes of bits, for calls that are lent less than one word for each left side: the seeds are the agree sets, a plane
-// says for one right which left sides do not give it, and a cache holds the rights of the next left sides.
-// Relies on the definitions of `model` and `columns`, and on `table` for the closing. Called by `listing`.
+// Not for callers: planes of bits, for calls that are lent less than one word for each left side. The seeds are the agree
+// sets, a plane says for one right which left sides do not give it, and a cache holds the rights of the next left sides.
+// Relies on the definitions of `model` and `columns`, and on `table` for the closing. Called by `scan` and `rights`.
 ghost use Prim.Native.Nat.{_+_, _-_, _*_, _/_, _%_, _^_, _≤_, _<_};
 ghost use mathlib.Core.Path.{_≡_};
 ghost use mathlib.Core.Bool.{true};

@@ -1,6 +1,6 @@
-// The listed rights of one left side, for the listing call. `prepare` is called where a call enters a target, then `rights` for each left
+// Not for callers: the listed rights of one left side, for the listing call. `prepare` is called where a call enters a target, then `rights` for each left
 // side of it; what the two keep in the work words between calls is theirs alone.
-// Relies on `catalogue` for agree sets and on `scan`, `table` and `planes` for what the words hold. Called by `listing`.
+// Relies on `agreement` for agree sets and on `scan`, `table` and `planes` for what the words hold. Called by `listing`.
 mod pass;
 
 ghost use mathlib.Core.Path.{_≡_};
@@ -33,7 +33,7 @@ pub fn prepare(cat: &[u8], target: u32, useful: u32, work: &mut [u32]) -> u32
     if useful < TABLE_PAYS {
         return BY_PASS;
     }
-    let n = catalogue::visible(cat, target);
+    let n = layout::visible(cat, target);
     if work.len() < power(n) as usize {
         scan::sow(cat, target, work);
         return NARROW + own_mask(cat, target);
@@ -58,8 +58,8 @@ pub fn own_mask(cat: &[u8], target: u32) -> u32
     requires { ⌜ target < tables (now cat) ⌝ }
     ensures { λ r. ⌜ r ≡ 2 ^ suc (visible (now (cat .entry)) target) - 2 ^ inherited (now (cat .entry)) target ⌝ }
 {
-    let end = catalogue::visible(cat, target) + 1;
-    power(end) - power(catalogue::inherited(cat, target))
+    let end = layout::visible(cat, target) + 1;
+    power(end) - power(layout::inherited(cat, target))
 }
 
 // The listed rights of a left side of the target.
@@ -77,5 +77,5 @@ pub fn rights(cat: &[u8], target: u32, left: u32, mode: u32, work: &mut [u32]) -
     if mode < NARROW {
         return table::minimal_rights(work, left, mode);
     }
-    planes::rights_from(work, catalogue::visible(cat, target), mode - NARROW, left)
+    planes::rights_from(work, layout::visible(cat, target), mode - NARROW, left)
 }

@@ -9,13 +9,13 @@ ghost use Rattle.model.specs.Catalogue.{rows as rowsOf, cell as cellOf};
 ghost use Rattle.model.specs.Target.{owner as ownerOf, ancestor as ancestorOf};
 ghost use Rattle.table.specs.Words.{word};
 ghost use Rattle.scan.specs.Columns.{Put, Laid, size, codesAt, rowsAt, reachedRow, reachedCode};
-use catalogue::ancestor;
-use catalogue::cell;
-use catalogue::inherited;
-use catalogue::less;
-use catalogue::owner;
-use catalogue::rows;
+use agreement::ancestor;
+use agreement::less;
+use agreement::owner;
 use columns::COLUMN_BOUND;
+use layout::cell;
+use layout::inherited;
+use layout::rows;
 use model::ROW_BOUND;
 
 // The words of one column, of all codes, and of all.

@@ -13,8 +13,8 @@ use Rattle.model.specs.Catalogue.{rows, visible}
 use Rattle.model.specs.Target.{view}
 use Rattle.model.proofs.Check.{accepted-visible, accepted-rows}
 use Rattle.table.specs.Broken.{PairBefore, agreeSetOf}
-use Rattle.catalogue.specs.AgreeSet.{agreeSet}
-use Rattle.catalogue.proofs.AgreeSet.{agreeSet-lt}
+use Rattle.agreement.specs.AgreeSet.{agreeSet}
+use Rattle.agreement.proofs.AgreeSet.{agreeSet-lt}
 use Rattle.rights.specs.Passed.{Noted, Passed}
 use Rattle.rights.proofs.Passing.{pass-pair, pass-row, pass-row-ended}
 use Rattle.rights.proofs.pass.row_rights.Statement.{statement}

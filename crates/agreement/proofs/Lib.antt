@@ -1,0 +1,4 @@
+pub mod Walk
+pub mod Grants
+pub mod AgreeSet
+pub mod Agreement

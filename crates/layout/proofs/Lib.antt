@@ -1,0 +1,3 @@
+pub mod Where
+pub mod First
+pub mod Sound
