@@ -11,11 +11,11 @@ ghost use Rattle.model.specs.Check.{Accepted};
 ghost use Rattle.model.specs.Target.{view};
 ghost use Rattle.table.specs.Broken.{PairBefore, rightsMask};
 ghost use Rattle.rights.specs.Passed.{Noted, Passed, Needed};
+use bits::power;
 use catalogue::agree_set_of;
 use catalogue::rows;
 use catalogue::visible;
 use columns::COLUMN_BOUND;
-use columns::power;
 
 // How many members a left side can have.
 const MEMBERS: usize = COLUMN_BOUND as usize;

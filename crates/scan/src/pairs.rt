@@ -15,10 +15,10 @@ use crate::lay::SIZE;
 use crate::lay::lay;
 use crate::line::base_of;
 use crate::line::line_from;
+use bits::power;
 use catalogue::inherited;
 use catalogue::rows;
 use catalogue::visible;
-use columns::power;
 use table::close;
 
 // Empties the first 2 to the power n words.

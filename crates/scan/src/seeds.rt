@@ -17,10 +17,10 @@ use crate::lay::lay;
 use crate::line::base_of;
 use crate::line::line_from;
 use crate::pairs::clear;
+use bits::power;
 use catalogue::inherited;
 use catalogue::rows;
 use catalogue::visible;
-use columns::power;
 use planes::mark;
 
 // Sets the bit of each agree set of a line.
