@@ -8,3 +8,4 @@ pub mod Next
 pub mod Rows
 pub mod Unrank
 pub mod SetBelow
+pub mod Membership

@@ -3,3 +3,4 @@ pub mod Test
 pub mod Set
 pub mod Order
 pub mod Counts
+pub mod Alike

@@ -1,12 +1,14 @@
-// Sets of columns, by value, and their listing order: by size, then by number.
-// Relies on nothing. Called by every crate that speaks of left sides.
-ghost use Prim.Native.Nat.{ℕ, suc, _≤_, _<_, _^_};
+// Sets of columns, by value, and their listing order: by size, then by number. Every method goes by the members alone: bits at
+// or above the bound count for nothing.
+// Relies on `bits` for powers of two. Called by every crate that speaks of left sides.
+ghost use Prim.Native.Nat.{ℕ, suc, _≤_, _<_};
 ghost use mathlib.Core.Path.{_≡_};
 ghost use lib.ListN.{getD, length};
 ghost use Rattle.columns.specs.Bound.{columnBound};
-ghost use Rattle.columns.specs.Set.{bit, memberOf, sizeOf, withoutOf, withinOf, fullOf};
+ghost use Rattle.columns.specs.Set.{bit, memberOf, membersOf, memberCount, subsetOf, withoutOf, fullOf};
 ghost use Rattle.columns.specs.Order.{precedesOf, nextOf, atOf, ofSize, count};
 ghost use Rattle.columns.specs.Counts.{Counts};
+use bits::power;
 
 // The bound on visible columns; `columnBound` of specs/Bound.antt is the same number in the definitions.
 pub const COLUMN_BOUND: u32 = 16;
@@ -14,7 +16,10 @@ pub const COLUMN_BOUND: u32 = 16;
 // How many sizes a set can have.
 const SIZES: usize = COLUMN_BOUND as usize + 1;
 
-// Column k is a member if bit k is 1.
+// How many sets there are: one more than the number of the largest.
+const SETS: u32 = 1 << COLUMN_BOUND;
+
+// Column k is a member if k is below the bound and bit k is 1.
 pub struct ColumnSet {
     pub bits: u32,
 }
@@ -25,20 +30,19 @@ pub enum SetOrNone {
     Nothing,
 }
 
-// The number whose one bit is bit k.
-pub fn power(k: u32) -> u32
-    requires { ⌜ k < 32 ⌝ }
-    ensures { λ r. ⌜ r ≡ 2 ^ k ⌝ }
-{
-    1 << k
-}
-
 // Bit k of x.
 fn bit(x: u32, k: u32) -> u32
     requires { ⌜ k < 32 ⌝ }
     ensures { λ r. ⌜ r ≡ bit x k ⌝ }
 {
     (x >> k) % 2
+}
+
+// The members of x alone, without the bits at or above the bound.
+fn members(x: u32) -> u32
+    ensures { λ r. ⌜ r ≡ membersOf x ⌝ }
+{
+    x % SETS
 }
 
 impl ColumnSet {
@@ -74,20 +78,18 @@ impl ColumnSet {
 
     // How many members.
     pub fn size(self) -> u32
-        ensures { λ r. ⌜ r ≡ sizeOf (self .bits) ⌝ }
+        ensures { λ r. ⌜ r ≡ memberCount (self .bits) ⌝ }
     {
-        u32::count_ones(self.bits)
+        let x = members(self.bits);
+        u32::count_ones(x)
     }
 
     // The set without column k.
     pub fn without(self, k: u32) -> ColumnSet
-        ensures { λ r. ⌜ r .bits ≡ withoutOf (self .bits) k ⌝ }
+        ensures { λ r. ⌜ r .bits ≡ withoutOf (membersOf (self .bits)) k ⌝ }
     {
-        let x = self.bits;
-        if 32 <= k {
-            return ColumnSet { bits: x };
-        }
-        if bit(x, k) == 0 {
+        let x = members(self.bits);
+        if !self.member(k) {
             return ColumnSet { bits: x };
         }
         ColumnSet { bits: x - power(k) }
@@ -95,19 +97,19 @@ impl ColumnSet {
 
     // Is every member of this set a member of the other?
     pub fn within(self, other: ColumnSet) -> bool
-        ensures { λ r. ⌜ r ≡ withinOf (self .bits) (other .bits) ⌝ }
+        ensures { λ r. ⌜ r ≡ subsetOf (self .bits) (other .bits) ⌝ }
     {
-        let x = self.bits;
-        let y = other.bits;
+        let x = members(self.bits);
+        let y = members(other.bits);
         x & y == x
     }
 
     // Does this set stand before the other in listing order?
     pub fn precedes(self, other: ColumnSet) -> bool
-        ensures { λ r. ⌜ r ≡ precedesOf (self .bits) (other .bits) ⌝ }
+        ensures { λ r. ⌜ r ≡ precedesOf (membersOf (self .bits)) (membersOf (other .bits)) ⌝ }
     {
-        let x = self.bits;
-        let y = other.bits;
+        let x = members(self.bits);
+        let y = members(other.bits);
         let s = u32::count_ones(x);
         let t = u32::count_ones(y);
         if s < t {
@@ -123,12 +125,12 @@ impl ColumnSet {
     // and for n over the bound. The highest one of the lowest run of ones moves up by a bit, and the others of that
     // run go down to the end. Where no bit is free above, the next size begins.
     pub fn next(self, n: u32) -> SetOrNone
-        ensures { λ r. ⌜ r ≡ nextOf n (self .bits) ⌝ }
+        ensures { λ r. ⌜ r ≡ nextOf n (membersOf (self .bits)) ⌝ }
     {
         if COLUMN_BOUND < n {
             return SetOrNone::Nothing;
         }
-        let x = self.bits;
+        let x = members(self.bits);
         let end = power(n);
         if end <= x {
             return SetOrNone::Nothing;

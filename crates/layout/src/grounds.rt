@@ -26,8 +26,8 @@ use crate::place::table_end;
 use crate::place::tables;
 use crate::place::trailer;
 use crate::place::visible;
+use bits::power;
 use columns::COLUMN_BOUND;
-use columns::power;
 use model::ROW_BOUND;
 use model::TABLE_BOUND;
 

@@ -11,8 +11,11 @@ use lib.Count.{ones, ones-le}
 use lib.ListN.{length, drop, getD, replicate, length-append}
 use Rattle.columns.specs.Bound.{columnBound}
 use Rattle.columns.proofs.Bits.{bit-power-le}
+use Rattle.columns.proofs.Membership.{members-own}
 use Rattle.columns.specs.Order.{inOrder, nextOf}
+use Rattle.columns.specs.Set.{membersOf}
 use Rattle.columns.specs.declared.ColumnSet.{ColumnSet}
+use Rattle.columns.specs.declared.SetOrNone.{SetOrNone}
 use Rattle.columns.specs.declared.SetOrNone.the-variants.{Set, Nothing}
 use Rattle.model.specs.Bounds.{tableBound, workBound, row}
 use Rattle.model.specs.Catalogue.{tables, visible}
@@ -196,6 +199,13 @@ module _ (cat : List ℕ) (w : Walk) (words : List ℕ) (g : Good cat w words) (
   good-few : visible cat (w .target) ≤ columnBound
   good-few = accepted-visible cat (g .sound .accepted) (w .target) good-target
 
+  -- what the set answers as its next is the next of its number
+  next-of : {r : SetOrNone} → nextOf (w .members) (membersOf (w .left)) ≡ r → nextOf (visible cat (w .target)) (w .left) ≡ r
+  next-of e =
+      let s = g .stands in
+      let l = chosen-lt cat (w .target) (w .left) (s .index) (s .set) in
+      ap₂ nextOf (sym (g .sound .members)) (sym (members-own (visible cat (w .target)) (w .left) good-few l)) ∙ e
+
   -- a walk that differs only in its set
   abbrev moved : ℕ → ℕ → ℕ → ℕ → Walk
   moved t x n mode =
@@ -242,28 +252,28 @@ module _ (cat : List ℕ) (w : Walk) (words : List ℕ) (g : Good cat w words) (
         count = refl;
       }
 
-  pub follow-within : (y : ColumnSet) → 0 < w .budget → nextOf (w .members) (w .left) ≡ Set y
+  pub follow-within : (y : ColumnSet) → 0 < w .budget → nextOf (w .members) (membersOf (w .left)) ≡ Set y
       → Follows cat w (At (moved (w .target) (y .bits) (w .members) (w .mode))) words
   follow-within y some e =
       moved-after (w .target) (y .bits) (w .members) (w .mode) words some
       (next-within cat (w .target) (w .left) (w .place) (g .stands) good-few (y .bits)
-      (ap (λ (n : ℕ). nextOf n (w .left)) (sym (g .sound .members)) ∙ e))
+      (next-of e))
       (g .sound .members) (g .sound .ready) refl
 
-  pub follow-target : (n mode t : ℕ) (after : List ℕ) → 0 < w .budget → nextOf (w .members) (w .left) ≡ Nothing
+  pub follow-target : (n mode t : ℕ) (after : List ℕ) → 0 < w .budget → nextOf (w .members) (membersOf (w .left)) ≡ Nothing
       → t ≡ w .target + 1 → t < tables cat → n ≡ visible cat t → Ready cat t mode after → length after ≡ length words
       → Follows cat w (At (moved t 0 n mode)) after
   follow-target n mode t after some e q h v ready same =
       moved-after t 0 n mode after some
       (subst (λ (i : ℕ). Stands cat i 0 (w .place)) (sym (q ∙ add-one (w .target)))
       (next-target cat (w .target) (w .left) (w .place) (g .stands) good-few
-      (ap (λ (n : ℕ). nextOf n (w .left)) (sym (g .sound .members)) ∙ e) (omega arith)))
+      (next-of e) (omega arith)))
       v ready same
 
-  pub follow-none : (after : List ℕ) → nextOf (w .members) (w .left) ≡ Nothing → tables cat ≤ w .target + 1 → Follows cat w Stop after
+  pub follow-none : (after : List ℕ) → nextOf (w .members) (membersOf (w .left)) ≡ Nothing → tables cat ≤ w .target + 1 → Follows cat w Stop after
   follow-none after e h =
       next-none cat (w .target) (w .left) (w .place) (g .stands) good-few
-      (ap (λ (n : ℕ). nextOf n (w .left)) (sym (g .sound .members)) ∙ e) (omega arith)
+      (next-of e) (omega arith)
 
   -- going on by way of the next set
   pub goes-full : (v : Walk) (mid after : List ℕ) → After cat w v mid → Passes cat v Stop after → Goes cat w Stop after

@@ -10,9 +10,9 @@ ghost use Rattle.model.specs.Check.{Accepted};
 ghost use Rattle.listing.specs.Stands.{Found};
 ghost use Rattle.listing.specs.Walks.{First};
 use crate::Walk;
+use bits::power;
 use columns::ColumnSet;
 use columns::SetOrNone;
-use columns::power;
 
 // A target, and an index in the order of its sets.
 pub struct Spot {

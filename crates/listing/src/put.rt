@@ -3,7 +3,7 @@ ghost use mathlib.Core.Path.{_≡_};
 ghost use Rattle.listing.specs.Walks.{Puts, putFrom};
 use crate::Stepped;
 use crate::Walk;
-use columns::power;
+use bits::power;
 use model::Entry;
 
 // The entry of the lowest pending right, and the walk without it.

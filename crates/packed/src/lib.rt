@@ -52,10 +52,10 @@ fn member(left: u16, k: u32) -> bool
     set.member(k)
 }
 
-fn size(left: u32) -> u32
+fn size(left: u16) -> u32
     ensures { λ r. ⌜ r ≡ sizeOf left ⌝ }
 {
-    let set = ColumnSet { bits: left };
+    let set = ColumnSet { bits: wide16(left) };
     set.size()
 }
 
@@ -83,8 +83,8 @@ fn earlier(e: Entry, f: Entry) -> bool
     if e.target != f.target {
         return e.target < f.target;
     }
-    let s = size(wide16(e.left));
-    let t = size(wide16(f.left));
+    let s = size(e.left);
+    let t = size(f.left);
     if s != t {
         return s < t;
     }

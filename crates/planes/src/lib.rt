@@ -10,9 +10,9 @@ ghost use Rattle.columns.specs.Bound.{columnBound};
 ghost use Rattle.planes.specs.Bits.{planeBit, marked, clearOf, SelectedWord, ClosedWord, Filled, Narrow};
 ghost use Rattle.planes.specs.Cache.{seedWords, pairsAt, Roomy, Room, Lefts, Added, AddedBelow, PairsBelow};
 ghost use Rattle.planes.specs.Cache.{Answered, Block, AtCursor, RightsFrom};
+use bits::power;
 use columns::ColumnSet;
 use columns::SetOrNone;
-use columns::power;
 
 // How many words a plane takes at the bound on columns.
 const PLANE: usize = 1 << (columns::COLUMN_BOUND - 5);

@@ -10,7 +10,7 @@ ghost use Rattle.model.specs.Bounds.{workBound};
 ghost use Rattle.model.specs.Catalogue.{tables, visible, inherited};
 ghost use Rattle.model.specs.Check.{Accepted};
 ghost use Rattle.rights.specs.Rights.{rightAt, rightsMask, Ready};
-use columns::power;
+use bits::power;
 use pass::set_rights;
 
 // The mode in which the work words are not used, and each left side takes one pass over the pairs of rows. In any other the mode is made

@@ -12,8 +12,8 @@ ghost use Rattle.model.specs.Target.{view};
 ghost use Rattle.table.specs.Broken.{PairBefore, rightsMask};
 ghost use Rattle.rights.specs.Passed.{Noted, Passed, Needed};
 use agreement::agree_set_of;
+use bits::power;
 use columns::COLUMN_BOUND;
-use columns::power;
 use layout::rows;
 use layout::visible;
 

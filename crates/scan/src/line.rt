@@ -12,7 +12,7 @@ ghost use Rattle.scan.specs.Columns.{Line, Zero, Copied, Alike, columnAt
 use crate::lay::CODES;
 use crate::lay::LINE;
 use crate::lay::SIZE;
-use columns::power;
+use bits::power;
 use model::MISSING;
 
 // w if two words are equal, else 0.

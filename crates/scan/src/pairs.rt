@@ -15,7 +15,7 @@ use crate::lay::SIZE;
 use crate::lay::lay;
 use crate::line::base_of;
 use crate::line::line_from;
-use columns::power;
+use bits::power;
 use layout::inherited;
 use layout::rows;
 use layout::visible;

@@ -17,7 +17,7 @@ use crate::lay::lay;
 use crate::line::base_of;
 use crate::line::line_from;
 use crate::pairs::clear;
-use columns::power;
+use bits::power;
 use layout::inherited;
 use layout::rows;
 use layout::visible;

@@ -9,7 +9,7 @@ ghost use lib.ListN.{length, getD, set};
 ghost use lib.Bits.{bitOr};
 ghost use Rattle.columns.specs.Set.{bit};
 ghost use Rattle.table.specs.Words.{word, lackingOf, Joined, Closed, Read};
-use columns::power;
+use bits::power;
 
 // Puts the bits of a mask into the word at s.
 pub fn note(words: &mut [u32], s: u32, mask: u32)

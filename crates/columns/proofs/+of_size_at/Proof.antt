@@ -13,7 +13,7 @@ use Rattle.columns.proofs.of_size_at.Reads as of-size-at
 use Rattle.columns.proofs.of_size_at.Kinds as of-size-at-kinds
 use Rattle.columns.proofs.+of_size_at.Lts-of_size_at as of-size-at-lts
 use Rattle.columns.proofs.count.Reads as count-reads
-use Rattle.columns.proofs.power.Reads as power-reads
+use Rattle.bits.proofs.power.Reads as power-reads
 use Rattle.columns.proofs.+of_size_at.{statement}
 use Rattle.columns.proofs.+of_size_at.Tie.{close}
 

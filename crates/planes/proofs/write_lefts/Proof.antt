@@ -5,6 +5,7 @@ use native.Mathlib.Omega.{arith}
 use lib.ListN.{length-set}
 use borrow.Author.Needs.{needs}
 use Rattle.columns.specs.Order.{nextOf}
+use Rattle.columns.specs.Set.{membersOf}
 use Rattle.columns.specs.declared.SetOrNone.the-variants.{Set}
 use Rattle.planes.proofs.Pairs.{LeftsBelow, lefts-begun, lefts-more, lefts-done}
 use Rattle.planes.proofs.Pairs.{next-below, room-small, seedWords-small}
@@ -75,7 +76,7 @@ loop-less c = search needs
 loop-again : tie.Need-loop-again Inv-loop μ-loop
 loop-again c =
     let l = c .before .before .before .before .before in
-    let e : nextOf (l .before .before .before .before .args .n) (l .loop .x) ≡ Set (c .before .y .given .0 .0) = cc in
+    let e : nextOf (l .before .before .before .before .args .n) (membersOf (l .loop .x)) ≡ Set (c .before .y .given .0 .0) = cc in
     let y = next-below _ _ _ (omega arith) e in
     (omega arith, lefts-more _ _ _ _ _ _ _ _ (omega arith) (omega arith) y (l .loop .inv .1))
 

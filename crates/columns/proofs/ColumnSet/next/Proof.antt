@@ -1,13 +1,15 @@
 -- `columns::ColumnSet::next` meets its contract: the next number of the size, or the first of the next size.
 use Prim.Native.Nat.{ℕ, _+_, _-_, _^_, _≤_, _<_}
-use mathlib.Core.Path.{sym, ap, _∙_}
+use mathlib.Core.Path.{_≡_, sym, ap, _∙_}
 use mathlib.Core.Logic.{⊎-elim}
 use native.Mathlib.Numerals.{add-one}
 use native.Mathlib.Omega.{arith}
 use lib.Count.{trailingZeros, ones-le}
 use lib.Pow.{pow-pos, pow-mono}
 use Rattle.columns.specs.Bound.{columnBound}
-use Rattle.columns.specs.Set.{sizeOf, setOf}
+use Rattle.columns.specs.Set.{sizeOf, setOf, membersOf}
+use Rattle.columns.specs.Order.{nextOf}
+use Rattle.columns.specs.declared.SetOrNone.{SetOrNone}
 use Rattle.columns.specs.declared.SetOrNone.the-variants.{Set}
 use Rattle.columns.proofs.Size.{power-pos}
 use Rattle.columns.proofs.Next.{Moved, LastOfSize, moved-by, lowest-le, lowest-lt, last-zero, last-moved}
@@ -16,18 +18,26 @@ use borrow.Author.Needs.{needs}
 use Rattle.columns.proofs.ColumnSet.next.Statement.{statement}
 use Rattle.columns.proofs.ColumnSet.next.Tie as tie
 
--- the number, how many columns, and what is known once the number is below 2^n
+-- the members alone, how many columns, and what is known once that number is below 2^n
 abbrev bits : tie.Else2 → ℕ
-bits c = c .before .before .before .args .self .bits
+bits c = c .before .before .members .result
 
 abbrev width : tie.Else2 → ℕ
-width c = c .before .before .before .args .n
+width c = c .before .before .before .before .args .n
+
+within : (c : tie.Else2) → width c ≤ columnBound
+within c = c .before .before .before .if1 .left
+
+-- what is next after that number is what the set answers
+told : (c : tie.Else2) {r : SetOrNone} → nextOf (width c) (bits c) ≡ r
+    → r ≡ nextOf (width c) (membersOf (c .before .before .before .before .args .self .bits))
+told c e = sym e ∙ ap (nextOf (width c)) (c .before .before .members .ensures)
 
 below : (c : tie.Else2) → bits c < 2 ^ width c
 below c = omega (arith, c .before .power .ensures)
 
 small : (c : tie.Else2) → 2 ^ width c ≤ 2 ^ columnBound
-small c = pow-mono (c .before .before .if1 .left)
+small c = pow-mono (within c)
 
 word : (c : tie.Else2) → bits c < 2 ^ 32
 word c = omega (arith, below c, small c)
@@ -66,11 +76,16 @@ last c =
 returns : tie.Need-returns
 returns c = sym (next-over _ _ (c .if1 .taken))
 
+members-requires : tie.Need-members-requires
+members-requires c κs = search needs
+
 power-requires : tie.Need-power-requires
 power-requires c κs = search needs
 
 returns-2 : tie.Need-returns-2
-returns-2 c = sym (next-absent _ _ (c .before .before .if1 .left) (omega arith))
+returns-2 c =
+    let d = c .before .before in
+    sym (next-absent _ _ (d .before .if1 .left) (omega arith)) ∙ ap (nextOf (d .before .before .args .n)) (d .members .ensures)
 
 power-requires-2 : tie.Need-power-requires-2
 power-requires-2 c κs = lowest-lt 32 _ (c .if3 .taken) (word (c .before))
@@ -98,7 +113,7 @@ returns-3 c =
     let d = e .before .before in
     let r = bits d + e .power2 .result in
     ap (λ (p : ℕ). Set (setOf (r + (p - 1)))) (c .power3 .ensures)
-    ∙ sym (next-of-size (width d) (bits d) r (d .before .before .if1 .left) (grown e) (moved e) (inside (c .before)))
+    ∙ told d (next-of-size (width d) (bits d) r (within d) (grown e) (moved e) (inside (c .before)))
 
 add-power : tie.Need-add-power
 add-power c = search needs
@@ -113,19 +128,19 @@ returns-4 : tie.Need-returns-4
 returns-4 c =
     let d = c .before .before .before in
     ap (λ (p : ℕ). Set (setOf (p - 1))) (c .power4 .ensures ∙ ap (λ (i : ℕ). 2 ^ i) (add-one (sizeOf (bits d))))
-    ∙ sym (next-of-next-size (width d) (bits d) (d .before .before .if1 .left) (below d) (last (c .before .before))
-    (c .before .if5 .taken))
+    ∙ told d (next-of-next-size (width d) (bits d) (within d) (below d) (last (c .before .before)) (c .before .if5 .taken))
 
 returns-5 : tie.Need-returns-5
 returns-5 c =
     let d = c .before .before in
-    sym (next-of-last (width d) (bits d) (d .before .before .if1 .left) (below d) (last (c .before)) (c .if5 .left))
+    told d (next-of-last (width d) (bits d) (within d) (below d) (last (c .before)) (c .if5 .left))
 
 pub next-spec : {M : Type 1} → statement M
 next-spec =
     tie.close
     (tie.spec
     returns
+    members-requires
     power-requires
     returns-2
     power-requires-2

@@ -4,6 +4,7 @@ use native.Mathlib.Omega.{arith}
 use denote.Ref.{now}
 use borrow.Author.Needs.{needs}
 use Rattle.columns.specs.Order.{nextOf}
+use Rattle.columns.specs.Set.{membersOf}
 use Rattle.columns.specs.declared.SetOrNone.the-variants.{Set, Nothing}
 use Rattle.model.proofs.Check.{accepted-tables}
 use Rattle.listing.proofs.Walks.{good-target, follow-within, follow-target, follow-none}
@@ -37,7 +38,7 @@ cast-n c = search needs
 returns : tie.Need-returns
 returns c =
     let s = c .before .before .before .before .before .before .before .before in
-    let e : nextOf (s .args .w .members) (s .args .w .left) ≡ Nothing = cc in
+    let e : nextOf (s .args .w .members) (membersOf (s .args .w .left)) ≡ Nothing = cc in
     follow-none (now (s .args .cat)) (s .args .w) (now (s .args .work)) (s .pre .0) (s .pre .1 .0) (now (s .args .work)) e (omega arith)
 
 prepare-requires : tie.Need-prepare-requires
@@ -49,7 +50,7 @@ visible-requires c κs = search needs
 returns-2 : tie.Need-returns-2
 returns-2 c =
     let s = c .before .before .before .before .before .before in
-    let e : nextOf (s .args .w .members) (s .args .w .left) ≡ Set (c .before .s .given .0 .0) = cc in
+    let e : nextOf (s .args .w .members) (membersOf (s .args .w .left)) ≡ Set (c .before .s .given .0 .0) = cc in
     follow-within (now (s .args .cat)) (s .args .w) (now (s .args .work)) (s .pre .0) (s .pre .1 .0) (c .before .s .given .0 .0) (s .pre .1 .1) e
 
 same-length : tie.Need-same-length
@@ -58,7 +59,7 @@ same-length c = search needs
 returns-3 : tie.Need-returns-3
 returns-3 c =
     let s = c .before .before .before .before .before .before .before .before .before .before .before .before .before in
-    let e : nextOf (s .args .w .members) (s .args .w .left) ≡ Nothing = cc in
+    let e : nextOf (s .args .w .members) (membersOf (s .args .w .left)) ≡ Nothing = cc in
     follow-target (now (s .args .cat)) (s .args .w) (now (s .args .work)) (s .pre .0) (s .pre .1 .0) _ _ _ _
     (s .pre .1 .1) e refl (omega arith) (c .visible .ensures) (c .before .before .before .prepare .ensures) (search needs)
 

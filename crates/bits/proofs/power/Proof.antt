@@ -1,4 +1,4 @@
--- `columns::power` meets its contract: below 32 the shift loses nothing.
+-- `bits::power` meets its contract: below 32 the shift loses nothing.
 use Prim.Native.Nat.{_^_}
 use mathlib.Core.Path.{_∙_}
 use native.Mathlib.Nat.{one-mul}
@@ -6,8 +6,8 @@ use native.Mathlib.Omega.{arith}
 use lib.Dec.{lit<}
 use lib.Pow.{shl-exact}
 use borrow.Author.Needs.{needs}
-use Rattle.columns.proofs.power.Statement.{statement}
-use Rattle.columns.proofs.power.Tie as tie
+use Rattle.bits.proofs.power.Statement.{statement}
+use Rattle.bits.proofs.power.Tie as tie
 
 shl-result : tie.Need-shl-result
 shl-result c = search needs
