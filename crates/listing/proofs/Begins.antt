@@ -69,15 +69,14 @@ module _ (cat : List ℕ) (place budget room : ℕ) (words : List ℕ) where
         (λ z. omega arith) (λ z. omega arith)
 
     module _ (enough : workBound ≤ length words) where
-      pub begin-past : (last : ℕ) → last ≡ sets cat → last < place
-          → Began cat place budget room words (Done (answer.Refused PastTheEnd)) words
-      begin-past last is h =
+      pub begin-past : sets cat < place → Began cat place budget room words (Done (answer.Refused PastTheEnd)) words
+      begin-past h =
           refused-at PastTheEnd
           (after-check ∙ call-past (cells (ordinary cat)) place budget room (length words) enough (omega (arith, cells-length cat)))
           (λ z. omega arith) (λ z. omega arith)
 
       -- nothing is passed
-      module _ (last : ℕ) (is : last ≡ sets cat) (inside : place ≤ last) (zeroed : List ℕ) (z : zeroed ≡ replicate (length words) 0) where
+      module _ (inside : place ≤ sets cat) (zeroed : List ℕ) (z : zeroed ≡ replicate (length words) 0) where
         idle : code cat place budget room (length words) ≡ 0 → passed budget room (drop place (cellsOf cat)) ≡ 0
             → written budget room (drop place (cellsOf cat)) ≡ []
             → Began cat place budget room words (Done (answer.Listed place 0 0)) zeroed
@@ -101,7 +100,7 @@ module _ (cat : List ℕ) (place budget room : ℕ) (words : List ℕ) where
             (ap (λ (g : ℕ). passed g room (drop place (cellsOf cat))) q ∙ passed-spent room _)
             (ap (λ (g : ℕ). written g room (drop place (cellsOf cat))) q ∙ written-spent room _)
 
-        pub begin-end : place ≡ last → Began cat place budget room words (Done (answer.Listed place 0 0)) zeroed
+        pub begin-end : place ≡ sets cat → Began cat place budget room words (Done (answer.Listed place 0 0)) zeroed
         begin-end q =
             let l = cells-length cat in
             idle

@@ -6,4 +6,5 @@ pub mod Walks
 pub mod Begins
 pub mod Local
 pub mod ByValue
+pub mod WholeRun
 pub mod Meaning

@@ -49,7 +49,7 @@ fn set_at(n: u32, index: u32) -> u32
 {
     match ColumnSet::at(n, index) {
         SetOrNone::Set(s) => s.bits,
-        SetOrNone::Nothing => 0,
+        SetOrNone::Nothing => ColumnSet::EMPTY.bits,
     }
 }
 

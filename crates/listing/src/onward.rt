@@ -63,7 +63,7 @@ fn following(cat: &[u8], w: Walk, work: &mut [u32]) -> Reached
             let mode = rights::prepare(cat, target, w.budget, work);
             Reached::At(Walk {
                 target: target,
-                left: 0,
+                left: ColumnSet::EMPTY.bits,
                 members: layout::visible(cat, target),
                 mode: mode,
                 place: w.place,

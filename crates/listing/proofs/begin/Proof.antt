@@ -1,17 +1,12 @@
 -- `listing::begin` meets its contract.
-use mathlib.Core.Path.{sym, subst, _∙_}
+use mathlib.Core.Path.{subst}
 use denote.Ref.{now}
 use borrow.Author.Needs.{needs}
-use Rattle.model.specs.Check.{Accepted}
 use Rattle.listing.specs.Walks.{Passes}
 use Rattle.listing.specs.declared.Reached.{Reached}
 use Rattle.listing.proofs.Begins.{refusal-number, begin-refused, begin-few, begin-past, begin-spent, begin-end, begin-short, begin-walks}
 use Rattle.listing.proofs.begin.Statement.{statement}
 use Rattle.listing.proofs.begin.Tie as tie
-
--- what is known once the check has no ground
-accepted : (c : tie.Else1) → Accepted (now (c .before .before .before .before .args .cat))
-accepted c = sym (c .before .check-code .ensures) ∙ c .if1 .left
 
 check-code-requires : tie.Need-check-code-requires
 check-code-requires c κs = search needs
@@ -23,15 +18,13 @@ returns : tie.Need-returns
 returns c = begin-refused _ _ _ _ _ _ _ (c .before .before .check-code .ensures) (c .before .if1 .taken) (c .refusal .ensures)
 
 returns-2 : tie.Need-returns-2
-returns-2 c = begin-few _ _ _ _ _ (accepted (c .before)) (c .if2 .taken)
+returns-2 c = begin-few _ _ _ _ _ (search needs) (search needs)
 
 sets-requires : tie.Need-sets-requires
 sets-requires c κs = search needs
 
 returns-3 : tie.Need-returns-3
-returns-3 c =
-    let e = c .before .before in
-    begin-past _ _ _ _ _ (accepted (e .before)) (e .if2 .left) _ (c .before .sets .ensures) (c .if3 .taken)
+returns-3 c = begin-past _ _ _ _ _ (search needs) (search needs) (search needs)
 
 zero-words-requires : tie.Need-zero-words-requires
 zero-words-requires c κs = search needs
@@ -40,11 +33,7 @@ same-length : tie.Need-same-length
 same-length c = search needs
 
 returns-4 : tie.Need-returns-4
-returns-4 c =
-    let t = c .before .before .before .before in
-    let e = t .before .before .before in
-    begin-spent _ _ _ _ _ (accepted (e .before)) (e .if2 .left) _ (t .before .before .sets .ensures) (t .before .if3 .left) _
-    (c .before .before .zero-words .ensures) (t .if4 .taken)
+returns-4 c = begin-spent _ _ _ _ _ (search needs) (search needs) (search needs) _ (search needs) (search needs)
 
 zero-words-requires-2 : tie.Need-zero-words-requires-2
 zero-words-requires-2 c κs = search needs
@@ -53,11 +42,7 @@ same-length-2 : tie.Need-same-length-2
 same-length-2 c = search needs
 
 returns-5 : tie.Need-returns-5
-returns-5 c =
-    let t = c .before .before .before .before in
-    let e = t .before .before .before .before in
-    begin-end _ _ _ _ _ (accepted (e .before)) (e .if2 .left) _ (t .before .before .before .sets .ensures) (t .before .before .if3 .left) _
-    (c .before .before .zero-words2 .ensures) (t .if5 .taken)
+returns-5 c = begin-end _ _ _ _ _ (search needs) (search needs) (search needs) _ (search needs) (search needs)
 
 first-requires : tie.Need-first-requires
 first-requires c κs = search needs
@@ -99,7 +84,7 @@ returns-6 c =
     let h =
     subst (λ (r : Reached). Passes (now (s .args .cat)) (f .first .result) r (q .pass .last .1 .1 .0)) (p .before .before .v .given .1)
     (q .pass .ensures) in
-    begin-walks (now (s .args .cat)) (s .args .place) (s .args .budget) (s .args .room) (now (s .args .work)) (accepted (m .before)) (m .if2 .left)
+    begin-walks (now (s .args .cat)) (s .args .place) (s .args .budget) (s .args .room) (now (s .args .work)) (search needs) (search needs)
     (f .first .result) _ (f .first .ensures) (p .before .before .v .given .0 .0) (q .pass .last .1 .1 .0) h (search needs)
     (c .before .before .step .result) (c .before .before .step .last .1 .1 .0) (c .before .before .step .ensures)
 
@@ -117,7 +102,7 @@ returns-7 c =
     let h =
     subst (λ (r : Reached). Passes (now (s .args .cat)) (f .first .result) r (q .pass .last .1 .1 .0)) (p .enum-told .given .1)
     (q .pass .ensures) in
-    begin-short (now (s .args .cat)) (s .args .place) (s .args .budget) (s .args .room) (now (s .args .work)) (accepted (m .before)) (m .if2 .left)
+    begin-short (now (s .args .cat)) (s .args .place) (s .args .budget) (s .args .room) (now (s .args .work)) (search needs) (search needs)
     (f .first .result) _ (f .first .ensures) (q .pass .last .1 .1 .0) h (search needs) _ (c .before .before .zero-words3 .ensures)
 
 pub begin-spec : {M : Type 1} → statement M

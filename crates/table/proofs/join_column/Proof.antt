@@ -1,5 +1,5 @@
 -- `table::join_column` meets its contract. The loop's invariant: the words below `x` are joined, and from `x` on they
--- are as before.
+-- are as before. Each place that is read or written is at most that of `x` with the column, which is inside the words.
 use Prim.Native.Nat.{_-_}
 use native.Mathlib.Omega.{arith}
 use borrow.Author.Needs.{needs}
@@ -43,10 +43,14 @@ slice-read-words-2 : tie.Need-slice-read-words-2 Inv-loop μ-loop
 slice-read-words-2 c = joining-index _ _ _ _ _ _ _ (omega arith) (c .before .before .before .loop .inv)
 
 mul-words-3 : tie.Need-mul-words-3 Inv-loop μ-loop
-mul-words-3 c = search needs
+mul-words-3 c =
+    let h = joining-index _ _ _ _ _ _ _ (omega arith) (c .before .before .before .loop .inv) in
+    search needs
 
 slice-write-words : tie.Need-slice-write-words Inv-loop μ-loop
-slice-write-words c = search needs
+slice-write-words c =
+    let h = joining-index _ _ _ _ _ _ _ (omega arith) (c .before .before .before .loop .inv) in
+    search needs
 
 add-x : tie.Need-add-x Inv-loop μ-loop
 add-x c = search needs
