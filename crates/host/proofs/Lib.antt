@@ -1,3 +1,4 @@
 pub mod Numbers
 pub mod PackCalls
+pub mod ReadCalls
 pub mod ListCalls

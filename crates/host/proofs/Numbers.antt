@@ -1,16 +1,20 @@
 -- Refusals as negative numbers: each fits both signed widths, so it is read back as it was written, and shows the refusal that it came from.
 use Prim.Native.Nat.{ℕ, suc, _<_, _^_}
 use mathlib.Core.Path.{_≡_, refl, sym, ap, _∙_, subst}
+use native.Mathlib.Decide.{ℕ-discrete}
 use native.Mathlib.Omega.{arith}
+use mathlib.Core.List.{[], _∷_}
 use lib.Dec.{lit<}
 use lib.IntN.{ℤ, pos, negsuc, negℤ}
 use mir.Syntax.{w32, w64}
 use mir.Val.{SFits, toZ, ofZ}
 use mir.ValLaws.{toZ-ofZ, toZ-pos}
 use Rattle.model.specs.Refusal.{number}
-use Rattle.model.specs.Reply.{Reply, refused}
+use Rattle.columns.proofs.Test.{ifEq-yes, ifEq-no}
+use Rattle.model.specs.Reply.{Reply, answered, refused, replyOf}
 use Rattle.model.specs.declared.Refusal.{Refusal}
 use Rattle.model.specs.declared.Refusal.the-variants.{FileTooShort, BadTrailer, BadExtent, TableTooLarge, BadParentTable, TooManyVisible, BadParentRow, UnknownTable, UnknownColumn, UnknownRight, TooFewWords, PastTheEnd, RunTooShort, NoList, BadEntry, OutputTooShort}
+use Rattle.host.specs.Number.{valueOr}
 
 -- the same refusal, the same number
 pub same-refusal : {r s : Refusal} → r ≡ s → negℤ (pos (number s)) ≡ negℤ (pos (number r))
@@ -34,6 +38,15 @@ number-small RunTooShort = (12, refl, lit< tt)
 number-small NoList = (13, refl, lit< tt)
 number-small BadEntry = (14, refl, lit< tt)
 number-small OutputTooShort = (15, refl, lit< tt)
+
+-- the value of a reply that has one fits 63 bits if it does where there is no refusal
+pub reply-fits : (code n : ℕ) → (code ≡ 0 → n < 2 ^ 63) → valueOr 0 0 (replyOf code (n ∷ [])) < 2 ^ 63
+unfolding replyOf
+reply-fits code n h = go (ℕ-discrete code 0)
+  where
+    go : Dec (code ≡ 0) → valueOr 0 0 (replyOf code (n ∷ [])) < 2 ^ 63
+    go (yes z) = subst (λ (r : Reply). valueOr 0 0 r < 2 ^ 63) (sym (ifEq-yes (refused code) z)) (h z)
+    go (no m) = subst (λ (r : Reply). valueOr 0 0 r < 2 ^ 63) (sym (ifEq-no (answered (n ∷ [])) m)) (lit< tt)
 
 -- an unsigned number below 2 ^ 63 is read as it is
 pub read-unsigned : (n : ℕ) → n < 2 ^ 63 → toZ w64 n ≡ pos n

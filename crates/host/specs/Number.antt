@@ -4,9 +4,6 @@ use mathlib.Core.List.{[], _∷_}
 use lib.IntN.{ℤ, pos, negsuc, negℤ}
 use lib.ListN.{getD}
 use Rattle.model.specs.Reply.{Reply, refused, answered}
-use Rattle.model.specs.declared.Entry.{Entry}
-use Rattle.model.specs.declared.ReadAnswer.{ReadAnswer}
-use Rattle.model.specs.declared.ReadAnswer.the-variants.{Next, End}
 
 -- a refusal's number made negative, or the answer's value at an index
 abbrev pub numberOf : ℕ → Reply → ℤ
@@ -35,13 +32,3 @@ pairSeen (pos (suc (suc n))) first second = refused 0
 abbrev pub listSeen : ℤ → ℕ → ℕ → Reply
 listSeen (negsuc n) place passed = refused (suc n)
 listSeen (pos n) place passed = answered (place ∷ passed ∷ n ∷ [])
-
--- 1 for an entry, 0 for 'end'
-abbrev pub readNumber : ReadAnswer → ℤ
-readNumber (Next e) = pos 1
-readNumber End = pos 0
-
--- what stands behind a lent number afterwards: a field of the entry, or what stood there at the end
-abbrev pub fieldOr : (Entry → ℕ) → ℕ → ReadAnswer → ℕ
-fieldOr field old (Next e) = field e
-fieldOr field old End = old

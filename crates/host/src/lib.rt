@@ -5,21 +5,21 @@ ghost use mathlib.Core.Path.{_≡_};
 ghost use lib.IntN.{negℤ, pos, negsuc};
 ghost use lib.ListN.{length};
 ghost use Rattle.model.specs.Refusal.{number};
-ghost use Rattle.model.specs.Reply.{wordsAfter, listReply, packReply};
+ghost use Rattle.model.specs.Reply.{wordsAfter, listReply, packReply, entriesReply};
 ghost use Rattle.model.specs.Check.{checkMeaning};
 ghost use Rattle.model.specs.Question.{questionCode, askMeaning, PairMeaning};
 ghost use Rattle.model.specs.List.{ListMeaning};
-ghost use Rattle.model.specs.Packed.{entriesIn, readAt, openMeaning, packMeaning, outputAfter};
+ghost use Rattle.model.specs.Packed.{openMeaning, packMeaning, outputAfter, readMeaning, runRead};
 ghost use Rattle.listing.specs.Steps.{seen};
-ghost use Rattle.host.specs.Number.{numberOf, valueOr, statusOf, pairSeen, listSeen, readNumber, fieldOr};
+ghost use Rattle.host.specs.Number.{numberOf, valueOr, statusOf, pairSeen, listSeen};
 use model::AskAnswer;
 use model::CheckAnswer;
+use model::EntriesAnswer;
 use model::Entry;
 use model::ListAnswer;
 use model::OpenAnswer;
 use model::PackAnswer;
 use model::PairAnswer;
-use model::ReadAnswer;
 use model::Refusal;
 
 // A refusal's number made negative, at both widths.
@@ -125,7 +125,7 @@ pub extern "C" fn cagberin_pair(
 
 // The number of entries of the packed list that ends a file, with the number of bytes in front of it, which is written only then.
 #[no_mangle]
-pub extern "C" fn cagberin_open(file: &[u8], front: &mut u64) -> i64
+pub extern "C" fn cagberin_open(file: &[u8], front: &mut usize) -> i64
     ensures { λ r. ⌜ r ≡ numberOf 0 (openMeaning (now (file .entry))) ⌝ }
     ensures { λ r. ⌜ now (front .exit) ≡ valueOr 1 (now (front .entry)) (openMeaning (now (file .entry))) ⌝ }
 {
@@ -134,39 +134,33 @@ pub extern "C" fn cagberin_open(file: &[u8], front: &mut u64) -> i64
             entries: k,
             front: n,
         } => {
-            *front = n as u64;
+            *front = n;
             k as i64
         }
         OpenAnswer::Refused(r) => wide_negative(r),
     }
 }
 
-// 1 with the entry at an index of the packed list that ends a file, or 0 from its last entry on; the three are written only with 1.
-#[no_mangle]
-pub extern "C" fn cagberin_read(
-    file: &[u8],
-    index: u32,
-    target: &mut u32,
-    left: &mut u32,
-    right: &mut u32,
-) -> i32
-    ensures { λ r. ⌜ r ≡ readNumber (readAt (entriesIn (now (file .entry))) index) ⌝ }
-    ensures { λ r. ⌜ now (target .exit)
-        ≡ fieldOr (λ e. e .target) (now (target .entry)) (readAt (entriesIn (now (file .entry))) index) ⌝ }
-    ensures { λ r. ⌜ now (left .exit)
-        ≡ fieldOr (λ e. e .left) (now (left .entry)) (readAt (entriesIn (now (file .entry))) index) ⌝ }
-    ensures { λ r. ⌜ now (right .exit)
-        ≡ fieldOr (λ e. e .right) (now (right .entry)) (readAt (entriesIn (now (file .entry))) index) ⌝ }
+// A reading's answer as a number, the entries read.
+fn read_number(answer: EntriesAnswer) -> i64
+    requires { ⌜ valueOr 0 0 (entriesReply answer) < 2 ^ 63 ⌝ }
+    ensures { λ r. ⌜ r ≡ numberOf 0 (entriesReply answer) ⌝ }
 {
-    match packed::entry_at(file, index) {
-        ReadAnswer::Next(e) => {
-            *target = e.target as u32;
-            *left = e.left as u32;
-            *right = e.right as u32;
-            1
-        }
-        ReadAnswer::End => 0,
+    match answer {
+        EntriesAnswer::Read { count: n } => n as i64,
+        EntriesAnswer::Refused(r) => wide_negative(r),
     }
+}
+
+// Reads entries of the packed list that ends a file, from an index on, as many as the run has records: the number of entries, which stand at
+// the start of the run; 0 behind the last. The other records are untouched, and a refusal alters none.
+#[no_mangle]
+pub extern "C" fn cagberin_read(file: &[u8], from: usize, run: &mut [Entry]) -> i64
+    ensures { λ r. ⌜ (r ≡ numberOf 0 (readMeaning (now (file .entry)) from (length (now (run .entry)))))
+        × (now (run .exit) ≡ runRead (now (file .entry)) from (now (run .entry))) ⌝ }
+{
+    let answer = packed::read(file, from, run);
+    read_number(answer)
 }
 
 // A listing's answer as a number, the entry count; the place reached and the sets passed are written only with an answer.

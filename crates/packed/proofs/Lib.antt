@@ -7,7 +7,10 @@ pub mod Round
 pub mod Checks
 pub mod Opening
 pub mod Reading
+pub mod Filling
 pub mod Writes
 pub mod Passes
 pub mod Held
+pub mod Rest
 pub mod Called
+pub mod FillCalls

@@ -1,17 +1,20 @@
--- What opening a file answers, ground by ground: 14 by its three tests, then 15, then the list.
+-- What opening a file answers, ground by ground: 14 by its three tests, then 15, then the list. And back: what an answer
+-- tells of the file.
 use Prim.Native.Nat.{ℕ, _+_, _-_, _*_, _≤_, _<_}
 use mathlib.Core.Path.{_≡_, refl, sym, ap, ap₂, _∙_}
 use mathlib.Core.List.{List, [], _∷_}
 use mathlib.Core.Bool.{Bool, true, false, not}
+use native.Mathlib.Decide.{ℕ-discrete}
 use native.Mathlib.Omega.{arith}
-use lib.ListN.{length}
+use lib.ListN.{length, getD}
 use borrow.Author.Tests.{not-true, not-false}
-use Rattle.columns.proofs.Test.{is-if-eq, is-if-ne, is-if-lt, is-if-not-lt}
+use Rattle.columns.proofs.Test.{ifEq-yes, ifEq-no, is-if-eq, is-if-ne, is-if-lt, is-if-not-lt}
 use Rattle.model.specs.Reply.{Reply, refused, answered, replyOf}
 use Rattle.model.specs.Packed.{entriesFrom, entriesIn, countIn, distanceIn, listCode, entriesCode, readCode, openMeaning}
+use Rattle.model.proofs.Grounds.{orElse-left}
 use Rattle.packed.specs.Verdict.{badUnless}
 use Rattle.packed.proofs.Grounds.{else-first, else-second}
-use Rattle.packed.proofs.Trailer.{Listed, lists}
+use Rattle.packed.proofs.Trailer.{Listed, listed, lists}
 
 -- a reply by its code
 pub reply-refused : {n code : ℕ} (values : List ℕ) → n ≡ code → (n ≡ 0 → ⊥) → refused n ≡ replyOf code values
@@ -64,3 +67,48 @@ module _ (b : List ℕ) {d k : ℕ} (t : Bool) (h : 8 ≤ length b) (p : d ≡ d
   good-list n =
       ap₂ (λ (m n : ℕ). answered (m ∷ (length b - n) ∷ [])) q p
       ∙ reply-answered _ (sym checked ∙ ap badUnless (not-false t n))
+
+-- ---- a reply tells its code and its values, and so what opening answered tells what the file is
+abbrev valuesIn : Reply → List ℕ
+valuesIn (refused n) = []
+valuesIn (answered vs) = vs
+
+abbrev numberIn : Reply → ℕ
+numberIn (refused n) = n
+numberIn (answered vs) = 0
+
+pub answered-by : (code : ℕ) (values : List ℕ) {v : List ℕ} → answered v ≡ replyOf code values → (code ≡ 0) × (v ≡ values)
+unfolding replyOf
+answered-by code values {v} p = go (ℕ-discrete code 0)
+  where
+    go : Dec (code ≡ 0) → (code ≡ 0) × (v ≡ values)
+    go (yes e) = (e, ap valuesIn (p ∙ ifEq-yes _ e))
+    go (no n) =
+        let q : answered v ≡ refused code = p ∙ ifEq-no _ n in
+        let z : _≡_ {A = ℕ} 0 1 = cc in absurd (omega arith)
+
+pub refused-by : (code : ℕ) (values : List ℕ) {n : ℕ} → refused n ≡ replyOf code values → (n ≡ code) × (code ≡ 0 → ⊥)
+unfolding replyOf
+refused-by code values {n} p = go (ℕ-discrete code 0)
+  where
+    go : Dec (code ≡ 0) → (n ≡ code) × (code ≡ 0 → ⊥)
+    go (no m) = (ap numberIn (p ∙ ifEq-no _ m), m)
+    go (yes e) =
+        let q : refused n ≡ answered values = p ∙ ifEq-yes _ e in
+        let z : _≡_ {A = ℕ} 0 1 = cc in absurd (omega arith)
+
+-- what a file is that `open` accepts: k entries from a position on, and the trailer
+pub record Opened (b : List ℕ) (k first : ℕ) : Type 0 where
+  pub sound : readCode b ≡ 0
+  pub count : k ≡ countIn b
+  pub place : first ≡ length b - distanceIn b
+  pub inside : first + 4 * k + 8 ≡ length b
+
+pub opened : (b : List ℕ) {k first : ℕ} → answered (k ∷ first ∷ []) ≡ openMeaning b → Opened b k first
+unfolding openMeaning readCode
+opened b {k} {first} p =
+    let q = answered-by (readCode b) (countIn b ∷ (length b - distanceIn b) ∷ []) p in
+    let l = listed b (orElse-left (listCode b) _ (q .0)) in
+    let m : k ≡ countIn b = ap (λ (v : List ℕ). getD v 0 0) (q .1) in
+    let n : first ≡ length b - distanceIn b = ap (λ (v : List ℕ). getD v 1 0) (q .1) in
+    record { sound = q .0; count = m; place = n; inside = omega (arith, l .distance, l .fits) }

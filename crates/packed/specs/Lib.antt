@@ -3,3 +3,4 @@ pub mod Verdict
 pub mod Round
 pub mod Packing
 pub mod Reading
+pub mod Filling

@@ -1,6 +1,10 @@
 // Packed lists: entries packed into bytes and read back, behind any bytes in front. In order: 15 of entries; reading by position (`open`,
-// `entry_at`, `front`); a reading entry by entry (`Reader`: `start`, `next`, `advance`, `front_of`); packing (`pack`).
+// `entry_at`, `front`); a reading entry by entry (`Reader`: `start`, `next`, `advance`, `front_of`); packing (`pack`). In `fill`, reading
+// into a lent run of records (`read`).
 // Relies on the definitions of `model`, on `file` for numbers in a file and on `columns` for left sides.
+mod fill;
+
+pub use fill::read;
 ghost use Prim.Native.Nat.{_+_, _-_, _*_, _%_, _≤_, _<_};
 ghost use mathlib.Core.Path.{_≡_};
 ghost use mathlib.Core.Bool.{true, false};
