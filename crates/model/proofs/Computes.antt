@@ -13,7 +13,8 @@ use Rattle.model.specs.Target.{owner, ownerIn, ancestor, ancestorIn, cel
 use Rattle.model.specs.Listing.{cells, cellsFrom, cellsOf, entriesOf}
 use Rattle.model.specs.Album.{headOf, codesOf, rowOf, trailerOf, album, noRows, oneMissing, bothMissing, equalRows}
 use Rattle.model.specs.Damaged.{groundsFrom, notZero, grounds, cut, noTable, children, offsetsFrom, manyTables, longTrailer, lateTable, shortHead, shortRow, leftByte, manyColumns, manyRows, rootedRoot, ownParent, tooWide, rootedRow, strayRow}
+use Rattle.model.specs.Line.{inLine, forked, below, offsetsBy12, deepest}
 
 unfoldable pub computes : Unit {0}
-unfolding ones onesIn ifEq ifLt ifLe withoutOf inOrder bySizeFrom ofSize ofSizeFrom u16At u32At bytes2 bytes4 orElse firstOf replyOf tables trailer tableAt columns parent rows rowAt parentRow cell tableEnd visible visibleIn inherited sets setsFrom checkCode checkMeaning sizeCode trailerCode startOf headCode boundCode parentCode widthCode extentCode rowCode tableCode leftCode holds minimal allBelow agreeOn owner ownerIn ancestor ancestorIn cellsAgree agreeAt numbers rightsOf cells cellsFrom cellsOf entriesOf headOf codesOf rowOf trailerOf album noRows oneMissing bothMissing equalRows groundsFrom notZero grounds cut noTable children offsetsFrom manyTables longTrailer lateTable shortHead shortRow leftByte manyColumns manyRows rootedRoot ownParent tooWide rootedRow strayRow
+unfolding ones onesIn ifEq ifLt ifLe withoutOf inOrder bySizeFrom ofSize ofSizeFrom u16At u32At bytes2 bytes4 orElse firstOf replyOf tables trailer tableAt columns parent rows rowAt parentRow cell tableEnd visible visibleIn inherited sets setsFrom checkCode checkMeaning sizeCode trailerCode startOf headCode boundCode parentCode widthCode extentCode rowCode tableCode leftCode holds minimal allBelow agreeOn owner ownerIn ancestor ancestorIn cellsAgree agreeAt numbers rightsOf cells cellsFrom cellsOf entriesOf headOf codesOf rowOf trailerOf album noRows oneMissing bothMissing equalRows groundsFrom notZero grounds cut noTable children offsetsFrom manyTables longTrailer lateTable shortHead shortRow leftByte manyColumns manyRows rootedRoot ownParent tooWide rootedRow strayRow inLine forked below offsetsBy12 deepest
 computes = tt

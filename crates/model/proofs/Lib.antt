@@ -16,3 +16,4 @@ pub mod Complete
 pub mod Computes
 pub mod Cases
 pub mod Damaged
+pub mod Line

@@ -16,3 +16,4 @@ pub mod Packed
 pub mod Album
 pub mod Cases
 pub mod Damaged
+pub mod Line
