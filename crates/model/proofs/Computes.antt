@@ -14,7 +14,15 @@ use Rattle.model.specs.Listing.{cells, cellsFrom, cellsOf, entriesOf}
 use Rattle.model.specs.Album.{headOf, codesOf, rowOf, trailerOf, album, noRows, oneMissing, bothMissing, equalRows}
 use Rattle.model.specs.Damaged.{groundsFrom, notZero, grounds, cut, noTable, children, offsetsFrom, manyTables, longTrailer, lateTable, shortHead, shortRow, leftByte, manyColumns, manyRows, rootedRoot, ownParent, tooWide, rootedRow, strayRow}
 use Rattle.model.specs.Line.{inLine, forked, below, offsetsBy12, deepest}
+use Rattle.columns.specs.Set.{memberOf}
+use Rattle.model.specs.Question.{targetCode, leftSideCode, rightSideCode, wordsCode, questionCode}
+use Rattle.model.specs.Calls.{placeCode, roomCode, callCode}
+use Rattle.model.specs.List.{listCode}
+use Rattle.model.specs.Entry.{earlier}
+use Rattle.model.specs.Packed as list
+use Rattle.model.specs.Packed.{bytesOf, entryAt, countIn, distanceIn, entriesBytes, packed, entriesFrom, entriesIn, frontOf, entryCode, laterCode, restCode, entriesCode, outputCode, packCode, packMeaning, outputAfter, readCode, openMeaning}
+use Rattle.model.specs.RefusedCalls.{emptyList, lostEntry}
 
 unfoldable pub computes : Unit {0}
-unfolding ones onesIn ifEq ifLt ifLe withoutOf inOrder bySizeFrom ofSize ofSizeFrom u16At u32At bytes2 bytes4 orElse firstOf replyOf tables trailer tableAt columns parent rows rowAt parentRow cell tableEnd visible visibleIn inherited sets setsFrom checkCode checkMeaning sizeCode trailerCode startOf headCode boundCode parentCode widthCode extentCode rowCode tableCode leftCode holds minimal allBelow agreeOn owner ownerIn ancestor ancestorIn cellsAgree agreeAt numbers rightsOf cells cellsFrom cellsOf entriesOf headOf codesOf rowOf trailerOf album noRows oneMissing bothMissing equalRows groundsFrom notZero grounds cut noTable children offsetsFrom manyTables longTrailer lateTable shortHead shortRow leftByte manyColumns manyRows rootedRoot ownParent tooWide rootedRow strayRow inLine forked below offsetsBy12 deepest
+unfolding ones onesIn ifEq ifLt ifLe withoutOf inOrder bySizeFrom ofSize ofSizeFrom u16At u32At bytes2 bytes4 orElse firstOf replyOf tables trailer tableAt columns parent rows rowAt parentRow cell tableEnd visible visibleIn inherited sets setsFrom checkCode checkMeaning sizeCode trailerCode startOf headCode boundCode parentCode widthCode extentCode rowCode tableCode leftCode holds minimal allBelow agreeOn owner ownerIn ancestor ancestorIn cellsAgree agreeAt numbers rightsOf cells cellsFrom cellsOf entriesOf headOf codesOf rowOf trailerOf album noRows oneMissing bothMissing equalRows groundsFrom notZero grounds cut noTable children offsetsFrom manyTables longTrailer lateTable shortHead shortRow leftByte manyColumns manyRows rootedRoot ownParent tooWide rootedRow strayRow inLine forked below offsetsBy12 deepest memberOf targetCode leftSideCode rightSideCode wordsCode questionCode placeCode roomCode callCode listCode earlier list.listCode bytesOf entryAt countIn distanceIn entriesBytes packed entriesFrom entriesIn frontOf entryCode laterCode restCode entriesCode outputCode packCode packMeaning outputAfter readCode openMeaning emptyList lostEntry
 computes = tt

@@ -17,3 +17,4 @@ pub mod Computes
 pub mod Cases
 pub mod Damaged
 pub mod Line
+pub mod RefusedCalls
