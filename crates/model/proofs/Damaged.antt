@@ -79,7 +79,7 @@ many-rows =
       alone = one-table manyRows (first-table .0) ∙ ap (λ (n : ℕ). notZero (withRows manyRows n)) rows-are ∙ rest-is;
     }
 
-damages : Damages
+pub damages : Damages
 unfolding computes
 damages =
     record {

@@ -1,13 +1,12 @@
 -- What is true of the catalogues of several tables, by computation on the bytes.
 use mathlib.Core.Path.{_≡_, refl}
 use mathlib.Core.Bool.{true, false}
-use lib.Dec.{lit<}
 use Rattle.model.specs.Bounds.{row}
 use Rattle.model.specs.View.{Breaks, holds}
 use Rattle.model.specs.Target.{view}
 use Rattle.model.specs.Line.{inLine, Line, Fork, Depth}
 use Rattle.model.proofs.Computes.{computes}
-use Rattle.model.proofs.View.{holds-true, holds-false, agreeOn-true}
+use Rattle.model.proofs.View.{holds-true, holds-false, breaks-by}
 
 -- the tests on the tables in a line, and the pairs of rows that break
 three-up-gives : holds (view inLine 3) 1 3 ≡ true
@@ -20,13 +19,7 @@ three-up-not = refl
 
 three-up-breaks : Breaks (view inLine 3) 1 4 1 2
 unfolding computes
-three-up-breaks =
-    record {
-      lower = lit< tt;
-      exists = lit< tt;
-      left = agreeOn-true (view inLine 3) 1 1 2 refl;
-      right = λ t. t;
-    }
+three-up-breaks = breaks-by (view inLine 3) 1 4 1 2 tt tt refl refl
 
 two-up-not : holds (view inLine 3) 2 3 ≡ false
 unfolding computes
@@ -34,13 +27,7 @@ two-up-not = refl
 
 two-up-breaks : Breaks (view inLine 3) 2 3 0 1
 unfolding computes
-two-up-breaks =
-    record {
-      lower = lit< tt;
-      exists = lit< tt;
-      left = agreeOn-true (view inLine 3) 2 0 1 refl;
-      right = λ t. t;
-    }
+two-up-breaks = breaks-by (view inLine 3) 2 3 0 1 tt tt refl refl
 
 two-up-gives : holds (view inLine 3) 6 3 ≡ true
 unfolding computes
@@ -56,13 +43,7 @@ key-not = refl
 
 key-breaks : Breaks (view inLine 3) 18 row 0 1
 unfolding computes
-key-breaks =
-    record {
-      lower = lit< tt;
-      exists = lit< tt;
-      left = agreeOn-true (view inLine 3) 18 0 1 refl;
-      right = λ t. t;
-    }
+key-breaks = breaks-by (view inLine 3) 18 row 0 1 tt tt refl refl
 
 pub line : Line
 unfolding computes
