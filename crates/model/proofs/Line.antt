@@ -86,8 +86,12 @@ fork =
       accepted = refl;
       check = refl;
       visibles = refl;
-      owners = refl;
-      rootRows = refl;
+      ownersIn2 = refl;
+      ownersIn3 = refl;
+      rootRowsOf2 = refl;
+      rootRowsOf3 = refl;
+      firstAbove = refl;
+      secondAbove = refl;
       listing = refl;
     }
 

@@ -14,13 +14,14 @@ use Rattle.model.specs.Check.{Accepted}
 use Rattle.model.specs.Target.{view}
 use Rattle.model.specs.Listing.{ordinary, cells}
 use Rattle.model.specs.Calls.{placeCode, roomCode, callCode, Seen, Obeys}
-use Rattle.model.specs.List.{listCode, ListMeaning}
+use Rattle.model.specs.List.{ListMeaning}
 use Rattle.model.specs.Album.{album}
 use Rattle.model.specs.Line.{inLine}
 use Rattle.model.specs.Replies.{QuestionReplies, ListReplies, PackedReplies}
 use Rattle.model.specs.declared.Entry.{Entry}
 use Rattle.model.proofs.Truth.{true-is}
 use Rattle.model.proofs.Grounds.{orElse-next}
+use Rattle.model.proofs.Complete.{accepted-code}
 use Rattle.model.proofs.Computes.{computes}
 use Rattle.model.proofs.View.{breaks-by}
 
@@ -72,10 +73,12 @@ enough : (b : List ℕ) (s : Seen Entry) → Accepted b → workBound ≤ length
     (roomCode (s .budget) (length (s .run)) (drop (s .place) (cells (ordinary b)))))
     s
     → ListMeaning b s
-unfolding listCode callCode wordsCode
+unfolding callCode wordsCode
 enough b s z w o =
     subst (λ (n : ℕ). Obeys (cells (ordinary b)) n s)
-    (sym (orElse-next _ z ∙ orElse-next _ (ifLt-no (number TooFewWords) w)))
+    (sym
+    (accepted-code b z (s .place) (s .budget) (length (s .run)) (length (s .work))
+    ∙ orElse-next _ (ifLt-no (number TooFewWords) w)))
     o
 
 pub list-replies : ListReplies

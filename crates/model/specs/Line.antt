@@ -87,31 +87,40 @@ pub record Line : Type 0 where
       ∷ entry 3 1 3 ∷ entry 3 6 3 ∷ entry 3 17 row ∷ entry 3 20 3 ∷ entry 3 20 row ∷ entry 3 24 row
       ∷ []
 
--- two tables under the root: table 2's parent is not the table before it
+-- two tables under the root, and one under the first of them: the parents of tables 2 and 3 are not the tables before them
 unfoldable pub forked : List ℕ
 forked =
     headOf 1 noParent 2
     ++ rowOf noParent (4 ∷ [])
     ++ rowOf noParent (6 ∷ [])
-    ++ headOf 2 0 1
+    ++ headOf 2 0 2
     ++ rowOf 1 (8 ∷ 9 ∷ [])
+    ++ rowOf 1 (8 ∷ 6 ∷ [])
     ++ headOf 1 0 2
     ++ rowOf 1 (2 ∷ [])
     ++ rowOf 0 (2 ∷ [])
-    ++ trailerOf (0 ∷ 18 ∷ 34 ∷ []) 3 52
+    ++ headOf 1 1 2
+    ++ rowOf 0 (3 ∷ [])
+    ++ rowOf 1 (4 ∷ [])
+    ++ trailerOf (0 ∷ 18 ∷ 44 ∷ 62 ∷ []) 4 80
 
 pub record Fork : Type 0 where
   pub accepted : Accepted forked
-  -- 2 + 8 + 4 sets
-  pub check : checkMeaning forked ≡ answered (3 ∷ 14 ∷ [])
-  pub visibles : map (visible forked) (0 ∷ 1 ∷ 2 ∷ []) ≡ 1 ∷ 3 ∷ 2 ∷ []
-  pub owners : map (owner forked 2) (0 ∷ 1 ∷ []) ≡ 0 ∷ 2 ∷ []
-  pub rootRows : map (ancestor forked 0 2) (0 ∷ 1 ∷ []) ≡ 1 ∷ 0 ∷ []
-  -- a table with one row lists every right with the empty left
+  -- 2 + 8 + 4 + 16 sets
+  pub check : checkMeaning forked ≡ answered (4 ∷ 30 ∷ [])
+  pub visibles : map (visible forked) (0 ∷ 1 ∷ 2 ∷ 3 ∷ []) ≡ 1 ∷ 3 ∷ 2 ∷ 4 ∷ []
+  pub ownersIn2 : map (owner forked 2) (0 ∷ 1 ∷ []) ≡ 0 ∷ 2 ∷ []
+  pub ownersIn3 : map (owner forked 3) (0 ∷ 1 ∷ 2 ∷ 3 ∷ []) ≡ 0 ∷ 1 ∷ 1 ∷ 3 ∷ []
+  pub rootRowsOf2 : map (ancestor forked 0 2) (0 ∷ 1 ∷ []) ≡ 1 ∷ 0 ∷ []
+  pub rootRowsOf3 : map (ancestor forked 0 3) (0 ∷ 1 ∷ []) ≡ 1 ∷ 1 ∷ []
+  -- the rows of table 3 agree on the parent table's first column and not on its second
+  pub firstAbove : agreeAt forked 3 1 0 1 ≡ true
+  pub secondAbove : agreeAt forked 3 2 0 1 ≡ false
   pub listing : flat (cells (ordinary forked))
       ≡ entry 0 1 row
-      ∷ entry 1 0 1 ∷ entry 1 0 2 ∷ entry 1 0 row
+      ∷ entry 1 0 1 ∷ entry 1 4 row
       ∷ entry 2 0 1 ∷ entry 2 1 row
+      ∷ entry 3 4 3 ∷ entry 3 4 row ∷ entry 3 8 row
       ∷ []
 
 -- 16 tables in a line, each with one column: two root rows, and one row in each other table, which leads to the second of them
