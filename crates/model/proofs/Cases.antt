@@ -29,7 +29,7 @@ use Rattle.model.specs.declared.Entry.{Entry}
 use Rattle.model.proofs.Grounds.{orElse-none}
 use Rattle.model.proofs.Complete.{accepted-code}
 use Rattle.model.proofs.Computes.{computes}
-use Rattle.model.proofs.Damaged.{damages}
+use Rattle.model.proofs.Damaged.{damages, at-the-bounds, damage-order}
 use Rattle.model.proofs.RefusedCalls.{refused-questions, refused-listings, refused-lists}
 use Rattle.model.proofs.Line.{line, fork, depth}
 use Rattle.model.proofs.Replies.{question-replies, list-replies, packed-replies}
@@ -200,6 +200,8 @@ cases =
       fork = fork;
       depth = depth;
       damages = damages;
+      atTheBounds = at-the-bounds;
+      damageOrder = damage-order;
       refusedQuestions = refused-questions;
       refusedListings = refused-listings;
       refusedLists = refused-lists;

@@ -16,7 +16,7 @@ use Rattle.model.specs.Listing.{cells, ordinary}
 use Rattle.model.specs.Calls.{flat, Seen}
 use Rattle.model.specs.List.{ListMeaning}
 use Rattle.model.specs.Album.{album, noRows, oneMissing, bothMissing, equalRows}
-use Rattle.model.specs.Damaged.{Damages}
+use Rattle.model.specs.Damaged.{Damages, AtTheBounds, DamageOrder}
 use Rattle.model.specs.RefusedCalls.{RefusedQuestions, RefusedListings, RefusedLists}
 use Rattle.model.specs.Line.{Line, Fork, Depth}
 use Rattle.model.specs.Replies.{QuestionReplies, ListReplies, PackedReplies}
@@ -63,6 +63,8 @@ pub record Cases : Type 0 where
   pub depth : Depth
   -- specs/Damaged.antt and specs/RefusedCalls.antt: each ground of the refusals 1 to 16, and their order
   pub damages : Damages
+  pub atTheBounds : AtTheBounds
+  pub damageOrder : DamageOrder
   pub refusedQuestions : RefusedQuestions
   pub refusedListings : RefusedListings
   pub refusedLists : RefusedLists
