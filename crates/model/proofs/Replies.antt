@@ -128,6 +128,6 @@ packed-replies =
       fromSecond = refl;
       runFromSecond = refl;
       shortRun = refl;
-      runOfTwo = refl;
+      runOfOne = refl;
       runKept = refl;
     }

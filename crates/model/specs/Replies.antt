@@ -133,6 +133,6 @@ pub record PackedReplies : Type 0 where
   pub fromSecond : readMeaning behind 1 4 ≡ answered (2 ∷ [])
   pub runFromSecond : runRead behind 1 (blank ∷ blank ∷ blank ∷ blank ∷ [])
       ≡ entry 1 3 row ∷ entry 2 258 3 ∷ blank ∷ blank ∷ []
-  pub shortRun : readMeaning behind 0 2 ≡ answered (2 ∷ [])
-  pub runOfTwo : runRead behind 0 (blank ∷ blank ∷ []) ≡ entry 1 1 2 ∷ entry 1 3 row ∷ []
+  pub shortRun : readMeaning behind 1 1 ≡ answered (1 ∷ [])
+  pub runOfOne : runRead behind 1 (blank ∷ []) ≡ entry 1 3 row ∷ []
   pub runKept : runRead lostEntry 0 (blank ∷ []) ≡ blank ∷ []
