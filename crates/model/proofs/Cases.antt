@@ -1,4 +1,4 @@
--- K1 to K11 of document 01, by computation on the bytes.
+-- The cases, K1 to K11 of document 01 and the tables of the other files: by computation on the bytes.
 use Prim.Native.Nat.{ℕ, zero, suc, _+_, _≤_}
 use mathlib.Core.Path.{_≡_, refl, sym, ap, subst, _∙_}
 use mathlib.Core.Logic.{_⊎_, inl, inr}
@@ -27,8 +27,14 @@ use Rattle.model.specs.Album.{album, noRows, oneMissing, bothMissing, eq
 use Rattle.model.specs.Cases.{Cases}
 use Rattle.model.specs.declared.Entry.{Entry}
 use Rattle.model.proofs.Grounds.{orElse-none}
+use Rattle.model.proofs.Complete.{accepted-code}
 use Rattle.model.proofs.Computes.{computes}
-use Rattle.model.proofs.View.{holds-true, holds-false, agreeOn-true}
+use Rattle.model.proofs.Damaged.{damages, at-the-bounds, damage-order}
+use Rattle.model.proofs.RefusedCalls.{refused-questions, refused-listings, refused-lists}
+use Rattle.model.proofs.Line.{line, fork, depth}
+use Rattle.model.proofs.Replies.{question-replies, list-replies, packed-replies}
+use Rattle.model.proofs.Values.{bound-values, byte-order, refusal-numbers, answer-values}
+use Rattle.model.proofs.View.{holds-true, holds-false, breaks-by}
 
 -- the tests on these catalogues
 test1 : holds (view album 1) 1 2 ≡ true
@@ -42,13 +48,7 @@ test2 = refl
 -- rows 0 and 2
 breaks2 : Breaks (view album 1) 2 2 0 2
 unfolding computes
-breaks2 =
-    record {
-      lower = lit< tt;
-      exists = lit< tt;
-      left = agreeOn-true (view album 1) 2 0 2 refl;
-      right = λ t. t;
-    }
+breaks2 = breaks-by (view album 1) 2 2 0 2 tt tt refl refl
 
 test3 : holds (view album 1) 6 row ≡ true
 unfolding computes
@@ -164,12 +164,10 @@ passes-nothing {A} cs code s z p d o = (
 
 last11 : (s : Seen Entry) → s .place ≡ 10 → workBound ≤ length (s .work) → ListMeaning album s
     → (s .reply ≡ answered (10 ∷ 0 ∷ 0 ∷ [])) × (s .runThen ≡ s .run)
-unfolding listCode
 last11 s p w o =
     passes-nothing (cells (ordinary album)) (listCode album (s .place) (s .budget) (length (s .run)) (length (s .work))) s
-    (orElse-none album-accepted
-    (no-ground (cells (ordinary album)) (s .place) (s .budget) (length (s .run)) (length (s .work))
-    (p ∙ sym album-places) none w))
+    (accepted-code album album-accepted (s .place) (s .budget) (length (s .run)) (length (s .work))
+    ∙ no-ground (cells (ordinary album)) (s .place) (s .budget) (length (s .run)) (length (s .work)) (p ∙ sym album-places) none w)
     p none o
   where
     none : drop (s .place) (cells (ordinary album)) ≡ []
@@ -198,4 +196,20 @@ cases =
       oneMissingAccepted = refl;
       bothMissingAccepted = refl;
       equalRowsAccepted = refl;
+      line = line;
+      fork = fork;
+      depth = depth;
+      damages = damages;
+      atTheBounds = at-the-bounds;
+      damageOrder = damage-order;
+      refusedQuestions = refused-questions;
+      refusedListings = refused-listings;
+      refusedLists = refused-lists;
+      questionReplies = question-replies;
+      listReplies = list-replies;
+      packedReplies = packed-replies;
+      bounds = bound-values;
+      byteOrder = byte-order;
+      refusalNumbers = refusal-numbers;
+      answerValues = answer-values;
     }

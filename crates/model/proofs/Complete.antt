@@ -5,6 +5,8 @@ use mathlib.Core.Path.{_≡_, sym, subst}
 use mathlib.Core.Logic.{_↔_}
 use mathlib.Core.List.{List, [], _∷_, map, List·Memᴰ}
 use lib.ListN.{length}
+use Rattle.columns.proofs.Test.{ifEq-yes}
+use Rattle.model.specs.Refusal.{orElse}
 use Rattle.model.specs.Check.{checkCode, Accepted}
 use Rattle.model.specs.Entry.{Ordered, Once}
 use Rattle.model.specs.Listing.{ordinary, cells, countAll, MinimalEntry}
@@ -12,7 +14,6 @@ use Rattle.model.specs.Calls.{flat, Seen, Obeys, callCode}
 use Rattle.model.specs.Demand.{Linked, Every, AllObey, placeHeld, joined, Demand3, Complete}
 use Rattle.model.specs.List.{listCode, ListMeaning}
 use Rattle.model.specs.declared.Entry.{Entry}
-use Rattle.model.proofs.Grounds.{orElse-next}
 use Rattle.model.proofs.Demand.{demand3, every-map}
 use Rattle.model.proofs.Obedient.{Input, inputOf, obedient, reached}
 use Rattle.model.proofs.Listing.{belongs-is, full-ordered, full-once, full-count, ordinary-stands}
@@ -20,8 +21,8 @@ use Rattle.model.proofs.Rights.{ordinary-rights-ordered}
 
 -- on an accepted catalogue the first ground against a call is one of the call's own
 pub accepted-code : (b : List ℕ) → Accepted b → (p g r w : ℕ) → listCode b p g r w ≡ callCode (cells (ordinary b)) p g r w
-unfolding listCode
-accepted-code b ok p g r w = orElse-next _ ok
+unfolding listCode orElse
+accepted-code b ok p g r w = ifEq-yes _ ok
 
 obeys : (b : List ℕ) → Accepted b → (s : Seen Entry) → ListMeaning b s
     → Obeys (cells (ordinary b)) (callCode (cells (ordinary b)) (s .place) (s .budget) (length (s .run)) (length (s .work))) s

@@ -14,5 +14,9 @@ pub mod Obedient
 pub mod Listing
 pub mod Complete
 pub mod Computes
-pub mod Cases
 pub mod Damaged
+pub mod Line
+pub mod RefusedCalls
+pub mod Values
+pub mod Replies
+pub mod Cases

@@ -6,7 +6,7 @@ use mathlib.Core.Logic.{_⊎_, inl, inr, _↔_}
 use mathlib.Core.Bool.{Bool, true, false, not, _&&_, _||_}
 use native.Mathlib.Decide.{ℕ-discrete, decLt}
 use native.Mathlib.Omega.{arith}
-use lib.Dec.{T, eqb}
+use lib.Dec.{T, eqb, ltb, lit<}
 use Rattle.columns.specs.Set.{bit, withoutOf}
 use Rattle.columns.specs.Test.{pick}
 use Rattle.columns.proofs.Bits.{bit-without-same, bit-without-other}
@@ -106,6 +106,17 @@ agreeOn-true v x p q e = agreeOn-is v x p q .0 (true-is e)
 
 pub agreeOn-false : (v : View) (x p q : ℕ) → agreeOn v x p q ≡ false → AgreeOn v x p q → ⊥
 agreeOn-false v x p q e h = false-is e (agreeOn-is v x p q .1 h)
+
+-- two rows break a dependency, by the tests
+pub breaks-by : (v : View) (x a p q : ℕ) → T (ltb p q) → T (ltb q (v .rows)) → agreeOn v x p q ≡ true → agreeRight v a p q ≡ false
+    → Breaks v x a p q
+breaks-by v x a p q lower exists left right =
+    record {
+      lower = lit< lower;
+      exists = lit< exists;
+      left = agreeOn-true v x p q left;
+      right = false-is right;
+    }
 
 -- a failed test has two rows, in some order, that agree on the left and disagree on the right
 pub record Apart (v : View) (x a p q : ℕ) : Type 0 where

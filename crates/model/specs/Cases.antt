@@ -1,5 +1,5 @@
--- The proved cases of document 01, K1 to K11, as one table, with what it says of the album. Left sides are numbers: {0} is 1, {1} is 2,
--- {1, 2} is 6.
+-- The proved cases, as one table: K1 to K11 of document 01, what it says of the album, and the tables of the other files by subject. Left
+-- sides are numbers: {0} is 1, {1} is 2, {1, 2} is 6.
 use Prim.Native.Nat.{ℕ, _≤_}
 use mathlib.Core.Path.{_≡_}
 use mathlib.Core.List.{[], _∷_, List·Memᴰ}
@@ -16,6 +16,11 @@ use Rattle.model.specs.Listing.{cells, ordinary}
 use Rattle.model.specs.Calls.{flat, Seen}
 use Rattle.model.specs.List.{ListMeaning}
 use Rattle.model.specs.Album.{album, noRows, oneMissing, bothMissing, equalRows}
+use Rattle.model.specs.Damaged.{Damages, AtTheBounds, DamageOrder}
+use Rattle.model.specs.RefusedCalls.{RefusedQuestions, RefusedListings, RefusedLists}
+use Rattle.model.specs.Line.{Line, Fork, Depth}
+use Rattle.model.specs.Replies.{QuestionReplies, ListReplies, PackedReplies}
+use Rattle.model.specs.Values.{BoundValues, ByteOrder, RefusalNumbers, AnswerValues}
 use Rattle.model.specs.declared.Entry.{Entry}
 
 pub record Cases : Type 0 where
@@ -52,3 +57,23 @@ pub record Cases : Type 0 where
   pub oneMissingAccepted : Accepted oneMissing
   pub bothMissingAccepted : Accepted bothMissing
   pub equalRowsAccepted : Accepted equalRows
+  -- specs/Line.antt: four tables in a line, two tables under one parent, sixteen tables in a line
+  pub line : Line
+  pub fork : Fork
+  pub depth : Depth
+  -- specs/Damaged.antt and specs/RefusedCalls.antt: each ground of the refusals 1 to 16, and their order
+  pub damages : Damages
+  pub atTheBounds : AtTheBounds
+  pub damageOrder : DamageOrder
+  pub refusedQuestions : RefusedQuestions
+  pub refusedListings : RefusedListings
+  pub refusedLists : RefusedLists
+  -- specs/Replies.antt: replies, and lent memory afterwards
+  pub questionReplies : QuestionReplies
+  pub listReplies : ListReplies
+  pub packedReplies : PackedReplies
+  -- specs/Values.antt: the document's numbers
+  pub bounds : BoundValues
+  pub byteOrder : ByteOrder
+  pub refusalNumbers : RefusalNumbers
+  pub answerValues : AnswerValues

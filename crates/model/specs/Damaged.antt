@@ -1,6 +1,6 @@
 -- Damaged catalogues, one for each ground of the refusals 1 to 7, and all grounds in each: wherever it can be, the one that the file is
--- refused for is the only one.
-use Prim.Native.Nat.{ℕ, zero, suc, _+_}
+-- refused for is the only one. Then files at the bounds, which are accepted, and files with several faults, for the order of refusals.
+use Prim.Native.Nat.{ℕ, zero, suc, _+_, _*_}
 use mathlib.Core.Path.{_≡_}
 use mathlib.Core.List.{List, [], _∷_, _++_}
 use lib.ListN.{take, replicate}
@@ -9,7 +9,7 @@ use Rattle.model.specs.Bounds.{noParent}
 use Rattle.model.specs.Bytes.{bytes2, bytes4}
 use Rattle.model.specs.Refusal.{firstOf}
 use Rattle.model.specs.Catalogue.{tables, rows}
-use Rattle.model.specs.Check.{checkCode, sizeCode, trailerCode, headCode, boundCode, parentCode, widthCode, extentCode, rowCode, leftCode}
+use Rattle.model.specs.Check.{Accepted, checkCode, sizeCode, trailerCode, headCode, boundCode, parentCode, widthCode, extentCode, rowCode, leftCode}
 use Rattle.model.specs.Album.{headOf, rowOf, trailerOf}
 
 -- every ground in a file, in the order of the check: not only the first
@@ -74,8 +74,12 @@ leftByte = headOf 0 noParent 0 ++ (0 ∷ []) ++ trailerOf (0 ∷ []) 1 7
 unfoldable pub manyColumns : List ℕ
 manyColumns = headOf 17 noParent 0 ++ trailerOf (0 ∷ []) 1 6
 
+-- n root rows without columns: each is its parent row, two bytes 255
+unfoldable pub rowsOnly : ℕ → List ℕ
+rowsOnly n = headOf 0 noParent n ++ (replicate (2 * n) 255 ++ trailerOf (0 ∷ []) 1 (6 + 2 * n))
+
 unfoldable pub manyRows : List ℕ
-manyRows = headOf 0 noParent 4097 ++ (replicate 8194 255 ++ trailerOf (0 ∷ []) 1 8200)
+manyRows = rowsOnly 4097
 
 -- 5: the root has a parent table; a table is its own parent
 unfoldable pub rootedRoot : List ℕ
@@ -116,3 +120,62 @@ pub record Damages : Type 0 where
   pub wide : Only tooWide 6
   pub strayRoot : Only rootedRow 7
   pub stray : Only strayRow 7
+
+-- files at the bounds: 16 bytes; 16 columns; 4,096 rows; 15 columns and one more in a table below. 16 tables: `deepest` of specs/Line.antt
+unfoldable pub smallest : List ℕ
+smallest = headOf 0 noParent 0 ++ trailerOf (0 ∷ []) 1 6
+
+unfoldable pub mostColumns : List ℕ
+mostColumns = headOf 16 noParent 0 ++ trailerOf (0 ∷ []) 1 6
+
+unfoldable pub mostRows : List ℕ
+mostRows = rowsOnly 4096
+
+unfoldable pub widest : List ℕ
+widest = headOf 15 noParent 0 ++ headOf 1 0 0 ++ trailerOf (0 ∷ 6 ∷ []) 2 12
+
+pub record AtTheBounds : Type 0 where
+  pub bytes16 : Accepted smallest
+  pub columns16 : Accepted mostColumns
+  pub rows4096 : Accepted mostRows
+  pub visible16 : Accepted widest
+
+-- several faults each: an offset and 17 columns; 17 columns and the root's parent table; a table its own parent, whose columns then count again
+-- and again; too many visible columns and a row that passes the trailer, below a table without rows; such a row and its parent row
+unfoldable pub lateAndLarge : List ℕ
+lateAndLarge = (0 ∷ []) ++ headOf 17 noParent 0 ++ trailerOf (1 ∷ []) 1 7
+
+unfoldable pub largeAndRooted : List ℕ
+largeAndRooted = headOf 17 0 0 ++ trailerOf (0 ∷ []) 1 6
+
+unfoldable pub ownParentAndWide : List ℕ
+ownParentAndWide = headOf 0 noParent 0 ++ headOf 2 1 0 ++ trailerOf (0 ∷ 6 ∷ []) 2 12
+
+unfoldable pub wideAndLong : List ℕ
+wideAndLong = headOf 16 noParent 0 ++ headOf 1 0 1 ++ trailerOf (0 ∷ 6 ∷ []) 2 12
+
+unfoldable pub longAndRooted : List ℕ
+longAndRooted = headOf 1 noParent 1 ++ bytes2 0 ++ trailerOf (0 ∷ []) 1 8
+
+-- table by table: a root row with a parent row, and then a table that is its own parent; and then a byte after the last table
+unfoldable pub rowThenTable : List ℕ
+rowThenTable = headOf 0 noParent 1 ++ rowOf 0 [] ++ headOf 0 1 0 ++ trailerOf (0 ∷ 8 ∷ []) 2 14
+
+unfoldable pub rowThenByte : List ℕ
+rowThenByte = headOf 0 noParent 1 ++ rowOf 0 [] ++ (0 ∷ []) ++ trailerOf (0 ∷ []) 1 9
+
+pub record DamageOrder : Type 0 where
+  -- 1 before 2: 15 bytes without a sound trailer
+  pub oneBefore2 : (sizeCode cut ≡ 1) × (trailerCode cut ≡ 2) × (checkCode cut ≡ 1)
+  -- 2 before the tables: no table, and bytes left
+  pub twoBefore3 : Refused noTable 2 (2 ∷ 3 ∷ [])
+  -- in a table: offset and 6 bytes (3), 4, 5, 6, rows' extent (3), each row (7). Where rows pass the trailer, the end of the last table is
+  -- not its first byte, so 3 stands at the end too
+  pub threeBefore4 : Refused lateAndLarge 3 (3 ∷ 4 ∷ 6 ∷ [])
+  pub fourBefore5 : Refused largeAndRooted 4 (4 ∷ 5 ∷ 6 ∷ [])
+  pub fiveBefore6 : Refused ownParentAndWide 5 (5 ∷ 6 ∷ [])
+  pub sixBefore3 : Refused wideAndLong 6 (6 ∷ 3 ∷ 7 ∷ 3 ∷ [])
+  pub threeBefore7 : Refused longAndRooted 3 (3 ∷ 7 ∷ 3 ∷ [])
+  -- table by table, and left bytes last
+  pub tableByTable : Refused rowThenTable 7 (7 ∷ 5 ∷ [])
+  pub leftBytesLast : Refused rowThenByte 7 (7 ∷ 3 ∷ [])

@@ -14,5 +14,9 @@ pub mod Demand
 pub mod List
 pub mod Packed
 pub mod Album
-pub mod Cases
 pub mod Damaged
+pub mod Line
+pub mod RefusedCalls
+pub mod Values
+pub mod Replies
+pub mod Cases

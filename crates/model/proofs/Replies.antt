@@ -1,0 +1,133 @@
+-- What calls reply and what they leave in lent memory, by computation on the bytes.
+use Prim.Native.Nat.{ℕ, _≤_}
+use mathlib.Core.Path.{_≡_, refl, sym, ap, subst, _∙_}
+use mathlib.Core.List.{List, [], _∷_}
+use native.Mathlib.Omega.{arith}
+use lib.ListN.{length, drop, getD}
+use Rattle.columns.proofs.Test.{ifEq-no, ifLt-no}
+use Rattle.model.specs.Bounds.{workBound}
+use Rattle.model.specs.Refusal.{number, orElse}
+use Rattle.model.specs.declared.Refusal.the-variants.{TooFewWords}
+use Rattle.model.specs.Reply.{Reply, refused, answered}
+use Rattle.model.specs.Question.{wordsCode, PairMeaning}
+use Rattle.model.specs.Check.{Accepted}
+use Rattle.model.specs.Target.{view}
+use Rattle.model.specs.Listing.{ordinary, cells}
+use Rattle.model.specs.Calls.{placeCode, roomCode, callCode, Seen, Obeys}
+use Rattle.model.specs.List.{ListMeaning}
+use Rattle.model.specs.Album.{album}
+use Rattle.model.specs.Line.{inLine}
+use Rattle.model.specs.Replies.{QuestionReplies, ListReplies, PackedReplies}
+use Rattle.model.specs.declared.Entry.{Entry}
+use Rattle.model.proofs.Truth.{true-is}
+use Rattle.model.proofs.Grounds.{orElse-next}
+use Rattle.model.proofs.Complete.{accepted-code}
+use Rattle.model.proofs.Computes.{computes}
+use Rattle.model.proofs.View.{breaks-by}
+
+-- the values of an answer
+abbrev values : Reply → List ℕ
+values (refused n) = []
+values (answered vs) = vs
+
+-- K2's pair, and what it is not
+pair2 : PairMeaning album 1 2 2 16384 (answered (0 ∷ 2 ∷ []))
+unfolding computes
+pair2 =
+    record {
+      isRefused = λ ground. absurd (ground refl);
+      none = λ z h. absurd (true-is h);
+      breaking = λ z h. (0, 2, refl, breaks-by (view album 1) 2 2 0 2 tt tt refl refl);
+    }
+
+pub question-replies : QuestionReplies
+unfolding computes
+question-replies =
+    record {
+      k1 = refl;
+      k2 = refl;
+      k3 = refl;
+      noKey = refl;
+      refused8 = refl;
+      refused11 = refl;
+      refused6 = refl;
+      pairOfK1 = λ r m. m .none refl refl;
+      pairOfK2 = pair2;
+      notNone = λ m.
+          let e : _≡_ {A = ℕ} 0 2 = ap (λ (r : Reply). length (values r)) (m .breaking refl refl .2) in
+          omega arith;
+      notHigherFirst = λ m.
+          let rows = m .breaking refl refl in
+          let first : 2 ≡ rows .0 = ap (λ (r : Reply). getD (values r) 0 0) (rows .2) in
+          let second : 0 ≡ rows .1 = ap (λ (r : Reply). getD (values r) 1 0) (rows .2) in
+          omega (arith, rows .3 .lower);
+      pairRefused8 = λ r m. m .isRefused (λ (e : _≡_ {A = ℕ} 8 0). omega arith);
+      zeroed = refl;
+      kept = λ n ground. ifEq-no (0 ∷ 0 ∷ []) ground;
+    }
+
+-- with words enough, the grounds against a listing call are those of its place and of its run
+enough : (b : List ℕ) (s : Seen Entry) → Accepted b → workBound ≤ length (s .work)
+    → Obeys (cells (ordinary b))
+    (orElse (placeCode (length (cells (ordinary b))) (s .place))
+    (roomCode (s .budget) (length (s .run)) (drop (s .place) (cells (ordinary b)))))
+    s
+    → ListMeaning b s
+unfolding callCode wordsCode
+enough b s z w o =
+    subst (λ (n : ℕ). Obeys (cells (ordinary b)) n s)
+    (sym
+    (accepted-code b z (s .place) (s .budget) (length (s .run)) (length (s .work))
+    ∙ orElse-next _ (ifLt-no (number TooFewWords) w)))
+    o
+
+pub list-replies : ListReplies
+unfolding computes
+list-replies =
+    record {
+      whole = λ work w. enough album _ refl w (record { reply = refl; run = refl; work = refl });
+      exactly = λ work w. enough album _ refl w (record { reply = refl; run = refl; work = refl });
+      budgetLeft = λ work w. enough album _ refl w (record { reply = refl; run = refl; work = refl });
+      byBudget = λ work w. enough album _ refl w (record { reply = refl; run = refl; work = refl });
+      byRun = λ work w. enough album _ refl w (record { reply = refl; run = refl; work = refl });
+      goneOn = λ work w. enough album _ refl w (record { reply = refl; run = refl; work = refl });
+      budget0 = λ work w. enough album _ refl w (record { reply = refl; run = refl; work = refl });
+      noRecord = λ work w. enough album _ refl w (record { reply = refl; run = refl; work = refl });
+      refused13 = λ work w. enough inLine _ refl w (record { reply = refl; run = refl; work = refl });
+      twoAtOnce = λ work w. enough inLine _ refl w (record { reply = refl; run = refl; work = refl });
+      refused12 = λ work w. enough album _ refl w (record { reply = refl; run = refl; work = refl });
+      refused11 = record { reply = refl; run = refl; work = refl };
+      refused6 = record { reply = refl; run = refl; work = refl };
+      zeroed = refl;
+      zeroed13 = refl;
+      kept = λ n answer full. ifEq-no (0 ∷ 0 ∷ []) answer ∙ ifEq-no (0 ∷ 0 ∷ []) full;
+    }
+
+pub packed-replies : PackedReplies
+unfolding computes
+packed-replies =
+    record {
+      bytes = refl;
+      noEntry = refl;
+      writes = refl;
+      output = refl;
+      refused16 = refl;
+      outputKept16 = refl;
+      refused15 = refl;
+      outputKept15 = refl;
+      opens = refl;
+      entries = refl;
+      front = refl;
+      refused14 = refl;
+      noEntries = refl;
+      noFront = refl;
+      first = refl;
+      last = refl;
+      end = refl;
+      pastEnd = refl;
+      fromSecond = refl;
+      runFromSecond = refl;
+      shortRun = refl;
+      runOfOne = refl;
+      runKept = refl;
+    }

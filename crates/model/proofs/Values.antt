@@ -1,0 +1,81 @@
+-- The document's numbers, by computation.
+use mathlib.Core.Path.{refl}
+use mathlib.Core.List.{[], _∷_}
+use Rattle.columns.proofs.Test.{ifEq-no}
+use Rattle.model.specs.Reply.{answered}
+use Rattle.model.specs.Values.{BoundValues, ByteOrder, RefusalNumbers, AnswerValues}
+use Rattle.model.proofs.Computes.{computes}
+
+pub bound-values : BoundValues
+unfolding computes
+bound-values =
+    record {
+      tablesAtMost = refl;
+      columnsAtMost = refl;
+      rowsAtMost = refl;
+      wordsAtLeast = refl;
+      smallest = refl;
+      aboveTheRoot = refl;
+      missingCell = refl;
+      theRow = refl;
+    }
+
+pub byte-order : ByteOrder
+unfolding computes
+byte-order =
+    record {
+      read2 = refl;
+      read4 = refl;
+      readPast = refl;
+      write2 = refl;
+      write4 = refl;
+      albumRoot = refl;
+      albumBelow = refl;
+      albumTrailer = refl;
+    }
+
+pub refusal-numbers : RefusalNumbers
+unfolding computes
+refusal-numbers =
+    record {
+      torn = refl;
+      noTail = refl;
+      misplaced = refl;
+      oversize = refl;
+      noStem = refl;
+      tooWide = refl;
+      strayRow = refl;
+      unknownTable = refl;
+      unknownColumn = refl;
+      unknownRight = refl;
+      smallBench = refl;
+      pastTheEnd = refl;
+      trayFull = refl;
+      noList = refl;
+      badEntry = refl;
+      shortSheet = refl;
+    }
+
+pub answer-values : AnswerValues
+unfolding computes
+answer-values =
+    record {
+      noGround = refl;
+      aGround = λ n ground. ifEq-no (answered (7 ∷ [])) ground;
+      sound = refl;
+      holds = refl;
+      breaks = refl;
+      rows = refl;
+      none = refl;
+      listed = refl;
+      packed = refl;
+      opened = refl;
+      read = refl;
+      notSound = λ r. refl;
+      notAsked = λ r. refl;
+      notPaired = λ r. refl;
+      notListed = λ r. refl;
+      notPacked = λ r. refl;
+      notOpened = λ r. refl;
+      notRead = λ r. refl;
+    }

@@ -1,0 +1,138 @@
+-- What calls reply, and what they leave in lent memory: questions, pairs and listing calls on the album, and a packed list.
+use Prim.Native.Nat.{ℕ, _≤_}
+use mathlib.Core.Path.{_≡_}
+use mathlib.Core.List.{List, [], _∷_, _++_}
+use lib.ListN.{length, replicate, drop}
+use Rattle.model.specs.Bounds.{workBound, row}
+use Rattle.model.specs.Reply.{Reply, refused, answered, wordsAfter}
+use Rattle.model.specs.Question.{askMeaning, PairMeaning}
+use Rattle.model.specs.Entry.{entry}
+use Rattle.model.specs.Calls.{Seen, workAfter}
+use Rattle.model.specs.List.{ListMeaning}
+use Rattle.model.specs.Packed.{packed, packMeaning, outputAfter, openMeaning, entriesRead, frontRead, readFrom, readMeaning, runRead, readAt}
+use Rattle.model.specs.Album.{album}
+use Rattle.model.specs.Damaged.{tooWide}
+use Rattle.model.specs.Line.{inLine}
+use Rattle.model.specs.RefusedCalls.{lostEntry}
+use Rattle.model.specs.declared.Entry.{Entry}
+use Rattle.model.specs.declared.ReadAnswer.the-variants.{Next, End}
+
+-- K1 and K2 as questions and as pairs, table 1's keys, and refused ones
+pub record QuestionReplies : Type 0 where
+  pub k1 : askMeaning album 1 1 2 16384 ≡ answered (1 ∷ [])
+  pub k2 : askMeaning album 1 2 2 16384 ≡ answered (0 ∷ [])
+  pub k3 : askMeaning album 1 6 row 16384 ≡ answered (1 ∷ [])
+  pub noKey : askMeaning album 1 1 row 16384 ≡ answered (0 ∷ [])
+  pub refused8 : askMeaning album 2 1 2 16384 ≡ refused 8
+  pub refused11 : askMeaning album 1 1 2 16383 ≡ refused 11
+  pub refused6 : askMeaning tooWide 0 0 row 0 ≡ refused 6
+  -- the pair replies 'none' where it holds, and nothing else; rows 0 and 2 where it breaks, not 'none' and not the higher row first
+  pub pairOfK1 : (r : Reply) → PairMeaning album 1 1 2 16384 r → r ≡ answered []
+  pub pairOfK2 : PairMeaning album 1 2 2 16384 (answered (0 ∷ 2 ∷ []))
+  pub notNone : PairMeaning album 1 2 2 16384 (answered []) → ⊥
+  pub notHigherFirst : PairMeaning album 1 2 2 16384 (answered (2 ∷ 0 ∷ [])) → ⊥
+  pub pairRefused8 : (r : Reply) → PairMeaning album 2 1 2 16384 r → r ≡ refused 8
+  -- after an answer every work word is 0; after any refusal they are as they were
+  pub zeroed : wordsAfter 0 (3 ∷ 1 ∷ []) ≡ 0 ∷ 0 ∷ []
+  pub kept : (n : ℕ) → (n ≡ 0 → ⊥) → wordsAfter n (3 ∷ 1 ∷ []) ≡ 3 ∷ 1 ∷ []
+
+-- a record that no call writes
+abbrev pub blank : Entry
+blank = entry 9 9 9
+
+-- a listing call: place, budget, run and work words; its reply, and the run and the work words afterwards
+abbrev pub seen : ℕ → ℕ → List Entry → List ℕ → Reply → List Entry → List ℕ → Seen Entry
+seen place budget run work reply runThen workThen =
+    record {
+      place = place;
+      budget = budget;
+      run = run;
+      work = work;
+      reply = reply;
+      runThen = runThen;
+      workThen = workThen;
+    }
+
+-- so it is with whatever words, at least 16,384; afterwards they are all 0, or as they were
+abbrev pub ListZeroes : List ℕ → ℕ → ℕ → List Entry → Reply → List Entry → Type 0
+ListZeroes b place budget run reply runThen =
+    (work : List ℕ) → workBound ≤ length work
+    → ListMeaning b (seen place budget run work reply runThen (replicate (length work) 0))
+
+abbrev pub ListKeeps : List ℕ → ℕ → ℕ → List Entry → Reply → List Entry → Type 0
+ListKeeps b place budget run reply runThen =
+    (work : List ℕ) → workBound ≤ length work → ListMeaning b (seen place budget run work reply runThen work)
+
+-- the album's sets have an entry each at the places 3, 6 and 8
+pub record ListReplies : Type 0 where
+  -- all in one call, with a record more than entries, and with as many
+  pub whole : ListZeroes album 0 10 (blank ∷ blank ∷ blank ∷ blank ∷ []) (answered (10 ∷ 10 ∷ 3 ∷ []))
+      (entry 1 1 2 ∷ entry 1 3 row ∷ entry 1 6 row ∷ blank ∷ [])
+  pub exactly : ListZeroes album 0 10 (blank ∷ blank ∷ blank ∷ []) (answered (10 ∷ 10 ∷ 3 ∷ []))
+      (entry 1 1 2 ∷ entry 1 3 row ∷ entry 1 6 row ∷ [])
+  -- more budget than sets
+  pub budgetLeft : ListZeroes album 8 99 (blank ∷ []) (answered (10 ∷ 2 ∷ 1 ∷ [])) (entry 1 6 row ∷ [])
+  -- the budget ends it; the run ends it, before the next entry; and from there on
+  pub byBudget : ListZeroes album 1 4 (blank ∷ blank ∷ []) (answered (5 ∷ 4 ∷ 1 ∷ [])) (entry 1 1 2 ∷ blank ∷ [])
+  pub byRun : ListZeroes album 0 10 (blank ∷ []) (answered (6 ∷ 6 ∷ 1 ∷ [])) (entry 1 1 2 ∷ [])
+  pub goneOn : ListZeroes album 6 10 (blank ∷ []) (answered (8 ∷ 2 ∷ 1 ∷ [])) (entry 1 3 row ∷ [])
+  pub budget0 : ListZeroes album 3 0 (blank ∷ []) (answered (3 ∷ 0 ∷ 0 ∷ [])) (blank ∷ [])
+  pub noRecord : ListZeroes album 0 10 [] (answered (3 ∷ 3 ∷ 0 ∷ [])) []
+  -- 13: four tables in a line have two entries at place 10; the run is untouched, and the work words are 0
+  pub refused13 : ListZeroes inLine 10 1 (blank ∷ []) (refused 13) (blank ∷ [])
+  pub twoAtOnce : ListZeroes inLine 10 1 (blank ∷ blank ∷ []) (answered (11 ∷ 1 ∷ 2 ∷ [])) (entry 2 3 2 ∷ entry 2 3 row ∷ [])
+  -- 12, 11 and a refused catalogue: nothing lent is altered
+  pub refused12 : ListKeeps album 11 1 (blank ∷ []) (refused 12) (blank ∷ [])
+  pub refused11 : ListMeaning album (seen 0 10 (blank ∷ []) (3 ∷ 1 ∷ []) (refused 11) (blank ∷ []) (3 ∷ 1 ∷ []))
+  pub refused6 : ListMeaning tooWide (seen 0 10 (blank ∷ []) (3 ∷ 1 ∷ []) (refused 6) (blank ∷ []) (3 ∷ 1 ∷ []))
+  -- the words afterwards, by the code: 0 after an answer and after 13, as they were after any other refusal
+  pub zeroed : workAfter 0 (3 ∷ 1 ∷ []) ≡ 0 ∷ 0 ∷ []
+  pub zeroed13 : workAfter 13 (3 ∷ 1 ∷ []) ≡ 0 ∷ 0 ∷ []
+  pub kept : (n : ℕ) → (n ≡ 0 → ⊥) → (n ≡ 13 → ⊥) → workAfter n (3 ∷ 1 ∷ []) ≡ 3 ∷ 1 ∷ []
+
+-- three entries, two of the album and one with a left over one byte, and their 20 bytes
+abbrev pub some : List Entry
+some = entry 1 1 2 ∷ entry 1 3 row ∷ entry 2 258 3 ∷ []
+
+abbrev pub someBytes : List ℕ
+someBytes =
+    1 ∷ 2 ∷ 1 ∷ 0
+    ∷ 1 ∷ 255 ∷ 3 ∷ 0
+    ∷ 2 ∷ 3 ∷ 2 ∷ 1
+    ∷ 3 ∷ 0 ∷ 0 ∷ 0
+    ∷ 20 ∷ 0 ∷ 0 ∷ 0
+    ∷ []
+
+-- the same with two bytes in front
+abbrev pub behind : List ℕ
+behind = 7 ∷ 8 ∷ someBytes
+
+pub record PackedReplies : Type 0 where
+  pub bytes : packed some ≡ someBytes
+  pub noEntry : packed [] ≡ 0 ∷ 0 ∷ 0 ∷ 0 ∷ 8 ∷ 0 ∷ 0 ∷ 0 ∷ []
+  -- packing writes 4k + 8 bytes from the start of its output, no others; refused, it alters nothing
+  pub writes : packMeaning some 22 ≡ answered (20 ∷ [])
+  pub output : outputAfter some (replicate 22 6) ≡ someBytes ++ (6 ∷ 6 ∷ [])
+  pub refused16 : packMeaning some 19 ≡ refused 16
+  pub outputKept16 : outputAfter some (replicate 19 6) ≡ replicate 19 6
+  pub refused15 : packMeaning (entry 16 0 row ∷ []) 12 ≡ refused 15
+  pub outputKept15 : outputAfter (entry 16 0 row ∷ []) (replicate 12 6) ≡ replicate 12 6
+  -- reading: how many entries and how many bytes in front, the entries, and the part in front
+  pub opens : openMeaning behind ≡ answered (3 ∷ 2 ∷ [])
+  pub entries : entriesRead behind ≡ some
+  pub front : frontRead behind ≡ 7 ∷ 8 ∷ []
+  pub refused14 : openMeaning lostEntry ≡ refused 14
+  pub noEntries : entriesRead lostEntry ≡ []
+  pub noFront : frontRead (7 ∷ 8 ∷ drop 1 someBytes) ≡ []
+  -- entry by entry, and 'end' after the last
+  pub first : readAt (entriesRead behind) 0 ≡ Next (entry 1 1 2)
+  pub last : readAt (entriesRead behind) 2 ≡ Next (entry 2 258 3)
+  pub end : readAt (entriesRead behind) 3 ≡ End
+  pub pastEnd : readAt (entriesRead behind) 9 ≡ End
+  -- from an entry on into a run: as many as it has records, the others untouched
+  pub fromSecond : readMeaning behind 1 4 ≡ answered (2 ∷ [])
+  pub runFromSecond : runRead behind 1 (blank ∷ blank ∷ blank ∷ blank ∷ [])
+      ≡ entry 1 3 row ∷ entry 2 258 3 ∷ blank ∷ blank ∷ []
+  pub shortRun : readMeaning behind 1 1 ≡ answered (1 ∷ [])
+  pub runOfOne : runRead behind 1 (blank ∷ []) ≡ entry 1 3 row ∷ []
+  pub runKept : runRead lostEntry 0 (blank ∷ []) ≡ blank ∷ []

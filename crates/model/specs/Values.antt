@@ -1,0 +1,96 @@
+-- The document's numbers: its bounds, the order of bytes, the number of each refusal, and the values of each answer.
+use Prim.Native.Nat.{ℕ}
+use mathlib.Core.Path.{_≡_}
+use mathlib.Core.List.{List, [], _∷_}
+use lib.ListN.{take, drop}
+use Rattle.columns.specs.Bound.{columnBound}
+use Rattle.model.specs.Bounds.{tableBound, rowBound, workBound, smallestFile, noParent, missing, row}
+use Rattle.model.specs.Bytes.{byteAt, u16At, u32At, bytes2, bytes4}
+use Rattle.model.specs.Refusal.{number, orElse, firstOf}
+use Rattle.model.specs.Reply.{Reply, refused, answered, replyOf, checkReply, askReply, pairReply, listReply, packReply, openReply, entriesReply}
+use Rattle.model.specs.Album.{album}
+use Rattle.model.specs.declared.Refusal.{Refusal}
+use Rattle.model.specs.declared.Refusal.the-variants.{FileTooShort, BadTrailer, BadExtent, TableTooLarge, BadParentTable, TooManyVisible, BadParentRow, UnknownTable, UnknownColumn, UnknownRight, TooFewWords, PastTheEnd, RunTooShort, NoList, BadEntry, OutputTooShort}
+use Rattle.model.specs.declared.CheckAnswer.the-variants as check-answer
+use Rattle.model.specs.declared.AskAnswer.the-variants as ask-answer
+use Rattle.model.specs.declared.PairAnswer.the-variants as pair-answer
+use Rattle.model.specs.declared.ListAnswer.the-variants as list-answer
+use Rattle.model.specs.declared.PackAnswer.the-variants as pack-answer
+use Rattle.model.specs.declared.OpenAnswer.the-variants as open-answer
+use Rattle.model.specs.declared.EntriesAnswer.the-variants as entries-answer
+
+-- "Bounds", "The catalogue file" and "Agreement"
+pub record BoundValues : Type 0 where
+  pub tablesAtMost : _≡_ {A = ℕ} tableBound 16
+  pub columnsAtMost : _≡_ {A = ℕ} columnBound 16
+  pub rowsAtMost : _≡_ {A = ℕ} rowBound 4096
+  pub wordsAtLeast : _≡_ {A = ℕ} workBound 16384
+  pub smallest : _≡_ {A = ℕ} smallestFile 16
+  pub aboveTheRoot : _≡_ {A = ℕ} noParent 65535
+  pub missingCell : _≡_ {A = ℕ} missing 4294967295
+  pub theRow : _≡_ {A = ℕ} row 255
+
+-- numbers are unsigned and little-endian, read and written; past the end stand zeros
+pub record ByteOrder : Type 0 where
+  pub read2 : u16At (9 ∷ 1 ∷ 2 ∷ []) 1 ≡ 513
+  pub read4 : u32At (9 ∷ 1 ∷ 2 ∷ 3 ∷ 4 ∷ []) 1 ≡ 67305985
+  pub readPast : u32At (9 ∷ 1 ∷ 2 ∷ []) 1 ≡ 513
+  pub write2 : bytes2 513 ≡ 1 ∷ 2 ∷ []
+  pub write4 : bytes4 67305985 ≡ 1 ∷ 2 ∷ 3 ∷ 4 ∷ []
+  -- the album's table 0: columns, parent table, rows, and its rows 5, 5 and missing
+  pub albumRoot : take 24 album
+      ≡ 1 ∷ 0 ∷ 255 ∷ 255 ∷ 3 ∷ 0
+      ∷ 255 ∷ 255 ∷ 5 ∷ 0 ∷ 0 ∷ 0
+      ∷ 255 ∷ 255 ∷ 5 ∷ 0 ∷ 0 ∷ 0
+      ∷ 255 ∷ 255 ∷ 255 ∷ 255 ∷ 255 ∷ 255
+      ∷ []
+  -- its table 1: the first 6 bytes, and the row 0; 1, 7
+  pub albumBelow : take 16 (drop 24 album) ≡ 2 ∷ 0 ∷ 0 ∷ 0 ∷ 4 ∷ 0 ∷ 0 ∷ 0 ∷ 1 ∷ 0 ∷ 0 ∷ 0 ∷ 7 ∷ 0 ∷ 0 ∷ 0 ∷ []
+  -- its trailer: offsets 0 and 24, 2 tables, the trailer at 70
+  pub albumTrailer : drop 70 album ≡ 0 ∷ 0 ∷ 0 ∷ 0 ∷ 24 ∷ 0 ∷ 0 ∷ 0 ∷ 2 ∷ 0 ∷ 70 ∷ 0 ∷ 0 ∷ 0 ∷ []
+
+-- "Feeder desk codes"
+pub record RefusalNumbers : Type 0 where
+  pub torn : number FileTooShort ≡ 1
+  pub noTail : number BadTrailer ≡ 2
+  pub misplaced : number BadExtent ≡ 3
+  pub oversize : number TableTooLarge ≡ 4
+  pub noStem : number BadParentTable ≡ 5
+  pub tooWide : number TooManyVisible ≡ 6
+  pub strayRow : number BadParentRow ≡ 7
+  pub unknownTable : number UnknownTable ≡ 8
+  pub unknownColumn : number UnknownColumn ≡ 9
+  pub unknownRight : number UnknownRight ≡ 10
+  pub smallBench : number TooFewWords ≡ 11
+  pub pastTheEnd : number PastTheEnd ≡ 12
+  pub trayFull : number RunTooShort ≡ 13
+  pub noList : number NoList ≡ 14
+  pub badEntry : number BadEntry ≡ 15
+  pub shortSheet : number OutputTooShort ≡ 16
+
+-- a refusal returns its number alone, an answer its values
+pub record AnswerValues : Type 0 where
+  pub noGround : replyOf 0 (7 ∷ []) ≡ answered (7 ∷ [])
+  pub aGround : (n : ℕ) → (n ≡ 0 → ⊥) → replyOf n (7 ∷ []) ≡ refused n
+  -- the check: tables, and sets over all targets
+  pub sound : checkReply (check-answer.Sound 2 10) ≡ answered (2 ∷ 10 ∷ [])
+  -- the question: 1 for 'holds', 0 for 'breaks'
+  pub holds : askReply ask-answer.Holds ≡ answered (1 ∷ [])
+  pub breaks : askReply ask-answer.Breaks ≡ answered (0 ∷ [])
+  -- the pair: lower row first, or none
+  pub rows : pairReply (pair-answer.Rows 0 2) ≡ answered (0 ∷ 2 ∷ [])
+  pub none : pairReply pair-answer.Nothing ≡ answered []
+  -- the listing: next place, sets passed, entry count
+  pub listed : listReply (list-answer.Listed 6 5 1) ≡ answered (6 ∷ 5 ∷ 1 ∷ [])
+  -- packing: bytes written; opening: entries and bytes in front; reading: entries read
+  pub packed : packReply (pack-answer.Packed 20) ≡ answered (20 ∷ [])
+  pub opened : openReply (open-answer.Opened 3 2) ≡ answered (3 ∷ 2 ∷ [])
+  pub read : entriesReply (entries-answer.Read 3) ≡ answered (3 ∷ [])
+  -- and each refused
+  pub notSound : (r : Refusal) → checkReply (check-answer.Refused r) ≡ refused (number r)
+  pub notAsked : (r : Refusal) → askReply (ask-answer.Refused r) ≡ refused (number r)
+  pub notPaired : (r : Refusal) → pairReply (pair-answer.Refused r) ≡ refused (number r)
+  pub notListed : (r : Refusal) → listReply (list-answer.Refused r) ≡ refused (number r)
+  pub notPacked : (r : Refusal) → packReply (pack-answer.Refused r) ≡ refused (number r)
+  pub notOpened : (r : Refusal) → openReply (open-answer.Refused r) ≡ refused (number r)
+  pub notRead : (r : Refusal) → entriesReply (entries-answer.Refused r) ≡ refused (number r)
