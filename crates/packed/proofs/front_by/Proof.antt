@@ -3,6 +3,7 @@ use mathlib.Core.Path.{sym}
 use native.Mathlib.Omega.{arith}
 use lib.Seq.{length-take-le}
 use borrow.Author.Needs.{needs}
+use denote.Ref.{now}
 use Rattle.packed.proofs.Reading.{no-front, all-front}
 use Rattle.packed.proofs.front_by.Statement.{statement}
 use Rattle.packed.proofs.front_by.Tie as tie
@@ -11,7 +12,7 @@ is-open-requires : tie.Need-is-open-requires
 is-open-requires c κs = search needs
 
 slice-aggregate-result : tie.Need-slice-aggregate-result
-slice-aggregate-result c = search needs
+slice-aggregate-result c = sym (length-take-le _ (now (c .before .before .before .before .args .file)) (omega arith))
 
 returns : tie.Need-returns
 returns c = no-front _ _ _ (c .before .before .is-open .ensures) (c .before .if1 .taken)
