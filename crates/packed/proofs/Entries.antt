@@ -5,13 +5,12 @@ use mathlib.Core.Path.{_≡_, refl, sym, ap, _∙_}
 use mathlib.Core.List.{List, [], _∷_, _++_, append-assoc}
 use native.Mathlib.Nat.{add-assoc}
 use native.Mathlib.Omega.{arith}
-use lib.ListN.{length, length-append, drop, List·getD-eq-default}
+use lib.ListN.{length, drop, List·getD-eq-default}
 use Rattle.file.proofs.Past.{u16-past}
 use Rattle.model.specs.Entry.{entry}
-use Rattle.model.specs.Bytes.{byteAt, u16At, u32At, bytes2, bytes4}
+use Rattle.model.specs.Bytes.{u16At, bytes2}
 use Rattle.model.specs.Packed.{bytesOf, entryAt, entriesBytes, entriesFrom, entriesIn, countIn, distanceIn, readAt}
 use Rattle.model.specs.declared.Entry.{Entry}
-use Rattle.model.specs.declared.ReadAnswer.{ReadAnswer}
 use Rattle.model.specs.declared.ReadAnswer.the-variants.{Next, End}
 use Rattle.packed.specs.Small.{Small, Bytes}
 use Rattle.packed.proofs.Bytes.{byte-after, u16-after, u16-of-bytes2, bytes2-of-u16, drop-four}
@@ -81,11 +80,15 @@ read-from b zero p i h = absurd (omega arith)
 read-from b (suc n) p zero h = ap (λ (k : ℕ). Next (entryAt b k)) (omega arith)
 read-from b (suc n) p (suc i) h = read-from b n (p + 4) i (omega arith) ∙ ap (λ (k : ℕ). Next (entryAt b k)) (omega arith)
 
-read-past : (b : List ℕ) (n p i : ℕ) → n ≤ i → readAt (entriesFrom b n p) i ≡ End
-unfolding entriesFrom readAt
-read-past b zero p i h = refl
-read-past b (suc n) p zero h = absurd (omega arith)
-read-past b (suc n) p (suc i) h = read-past b n (p + 4) i (omega arith)
+pub read-past : (es : List Entry) (i : ℕ) → length es ≤ i → readAt es i ≡ End
+unfolding readAt
+read-past [] i h = refl
+read-past (e ∷ es) zero h = absurd (omega arith)
+read-past (e ∷ es) (suc i) h = read-past es i (omega arith)
+
+pub length-in : (b : List ℕ) → length (entriesIn b) ≡ countIn b
+unfolding entriesIn
+length-in b = length-from b (countIn b) (length b - distanceIn b)
 
 pub reads-next : (b : List ℕ) (i : ℕ) {e : Entry} {p : ℕ} → i < countIn b → p ≡ length b - distanceIn b → e ≡ entryAt b (p + 4 * i)
     → Next e ≡ readAt (entriesIn b) i
@@ -94,5 +97,4 @@ reads-next b i h q r =
     ap Next (r ∙ ap (λ (n : ℕ). entryAt b (n + 4 * i)) q) ∙ sym (read-from b (countIn b) (length b - distanceIn b) i h)
 
 pub reads-end : (b : List ℕ) (i : ℕ) → countIn b ≤ i → End ≡ readAt (entriesIn b) i
-unfolding entriesIn
-reads-end b i h = sym (read-past b (countIn b) (length b - distanceIn b) i h)
+reads-end b i h = sym (read-past (entriesIn b) i (omega (arith, length-in b)))

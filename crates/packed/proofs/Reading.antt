@@ -1,80 +1,148 @@
--- A reading entry by entry: what opening says of the first position, and that the answers of a reading are the entries in order, then 'end'.
-use Prim.Native.Nat.{ℕ, zero, suc, _+_, _≤_, _<_, min}
-use mathlib.Core.Path.{_≡_, refl, sym, ap, _∙_}
+-- A reading entry by entry: what may be read by an answer of `open`, and that the answers of a reading are the file's entries in order, then
+-- 'end', for every file.
+use Prim.Native.Nat.{ℕ, zero, suc, _+_, _-_, _*_, _≤_, _<_, min}
+use mathlib.Core.Path.{_≡_, sym, ap, ap₂, _∙_}
 use mathlib.Core.List.{List, [], _∷_}
-use native.Mathlib.Nat.{le-trans, le-of-eq}
+use mathlib.Core.Bool.{Bool, true, false, not}
 use native.Mathlib.Omega.{arith}
 use native.Mathlib.Decide.{decLt, ℕ-discrete}
-use Rattle.columns.proofs.Test.{ifEq-yes, ifEq-no, ifLt-yes, ifLt-no, is-if-eq, is-if-ne}
-use Rattle.model.specs.Reply.{Reply, refused, answered, replyOf}
-use Rattle.model.specs.Packed.{countIn, entriesIn, readCode, openMeaning, readAt}
-use Rattle.model.specs.declared.ReadAnswer.{ReadAnswer}
-use Rattle.model.specs.declared.ReadAnswer.the-variants.{End}
-use Rattle.packed.specs.Reading.{startOf, afterOf, positionOf}
-use Rattle.packed.proofs.Entries.{reads-end}
+use lib.ListN.{length, take}
+use borrow.Author.Tests.{not-true, not-false}
+use denote.Ref.{RefT, now}
+use Rattle.columns.specs.Test.{pick}
+use Rattle.columns.proofs.Test.{ifEq-yes, ifEq-no, ifLt-yes, ifLt-no}
+use Rattle.model.specs.Reply.{refused, answered, replyOf, openReply}
+use Rattle.model.specs.Packed.{countIn, distanceIn, entryAt, entriesIn, entriesRead, frontOf, frontRead, readCode, openMeaning, readAt}
+use Rattle.model.specs.declared.Entry.{Entry}
+use Rattle.model.specs.declared.OpenAnswer.{OpenAnswer}
+use Rattle.model.specs.declared.OpenAnswer.the-variants.{Opened, Refused}
+use Rattle.model.specs.declared.ReadAnswer.the-variants.{Next, End}
+use Rattle.packed.specs.Reading.{isOpen, entriesBy, frontBy, afterIn, Begun, nextOf, after, Reads}
+use Rattle.packed.specs.declared.Reader.{Reader}
+use Rattle.packed.proofs.Entries.{read-past, length-in, reads-next, reads-end}
 
--- an answer says that there is no ground, a refusal that there is one
+-- what may be read, by a test t of an answer
+module _ (a : OpenAnswer) (b : List ℕ) (t : Bool) (e : t ≡ isOpen a) where
+  module _ (n : not t ≡ true) where
+    no-entries : [] ≡ entriesBy a b
+    unfolding entriesBy
+    no-entries = ap (λ (s : Bool). pick s (entriesIn b) []) (sym (not-true t n) ∙ e)
+
+    pub no-front : [] ≡ frontBy a b
+    unfolding frontBy
+    no-front = ap (λ (s : Bool). pick s (frontOf b) []) (sym (not-true t n) ∙ e)
+
+    pub refused-end : (i : ℕ) → End ≡ readAt (entriesBy a b) i
+    unfolding readAt
+    refused-end i = ap (λ (es : List Entry). readAt es i) no-entries
+
+    pub refused-stays : (i : ℕ) → i ≡ afterIn (entriesBy a b) i
+    unfolding afterIn
+    refused-stays i = sym (ifLt-no _ (omega arith)) ∙ ap (λ (es : List Entry). afterIn es i) no-entries
+
+  module _ (n : not t ≡ false) where
+    all-entries : entriesIn b ≡ entriesBy a b
+    unfolding entriesBy
+    all-entries = ap (λ (s : Bool). pick s (entriesIn b) []) (sym (not-false t n) ∙ e)
+
+    pub all-front : {k : ℕ} → k ≡ length b - distanceIn b → take k b ≡ frontBy a b
+    unfolding frontBy frontOf
+    all-front q = ap (λ (m : ℕ). take m b) q ∙ ap (λ (s : Bool). pick s (frontOf b) []) (sym (not-false t n) ∙ e)
+
+    pub opened-end : (i : ℕ) → countIn b ≤ i → End ≡ readAt (entriesBy a b) i
+    opened-end i h = reads-end b i h ∙ ap (λ (es : List Entry). readAt es i) all-entries
+
+    pub opened-next : (i : ℕ) {x : Entry} {p : ℕ} → i < countIn b → p ≡ length b - distanceIn b → x ≡ entryAt b (p + 4 * i)
+        → Next x ≡ readAt (entriesBy a b) i
+    opened-next i h q r = reads-next b i h q r ∙ ap (λ (es : List Entry). readAt es i) all-entries
+
+    pub opened-moves : (i : ℕ) → i < countIn b → i + 1 ≡ afterIn (entriesBy a b) i
+    unfolding afterIn
+    opened-moves i h = sym (ifLt-yes _ (omega (arith, length-in b))) ∙ ap (λ (es : List Entry). afterIn es i) all-entries
+
+    pub opened-stays : (i : ℕ) → countIn b ≤ i → i ≡ afterIn (entriesBy a b) i
+    unfolding afterIn
+    opened-stays i h = sym (ifLt-no _ (omega (arith, length-in b))) ∙ ap (λ (es : List Entry). afterIn es i) all-entries
+
+-- a reply says whether there is a ground
 module _ (b : List ℕ) where
-  refuses : (readCode b ≡ 0 → ⊥) → openMeaning b ≡ refused (readCode b)
+  accepts : {v : List ℕ} → answered v ≡ openMeaning b → readCode b ≡ 0
   unfolding openMeaning replyOf
-  refuses n = ifEq-no _ n
-
-  answers : readCode b ≡ 0 → (v : List ℕ) × (openMeaning b ≡ answered v)
-  unfolding openMeaning replyOf
-  answers e = (_, ifEq-yes _ e)
-
-  pub starts-open : {v : List ℕ} → answered v ≡ openMeaning b → 0 ≡ startOf b
-  unfolding startOf
-  starts-open {v} p = go (ℕ-discrete (readCode b) 0)
+  accepts {v} p = go (ℕ-discrete (readCode b) 0)
     where
-      go : Dec (readCode b ≡ 0) → 0 ≡ startOf b
-      go (yes e) = is-if-eq _ e refl
+      go : Dec (readCode b ≡ 0) → readCode b ≡ 0
+      go (yes e) = e
       go (no n) =
-          let q : answered v ≡ refused (readCode b) = p ∙ refuses n in
+          let q : answered v ≡ refused (readCode b) = p ∙ ifEq-no _ n in
           let z : _≡_ {A = ℕ} 0 1 = cc in absurd (omega arith)
 
-  pub starts-refused : {n k : ℕ} → refused n ≡ openMeaning b → k ≡ countIn b → k ≡ startOf b
-  unfolding startOf
-  starts-refused {n} {k} p c = go (ℕ-discrete (readCode b) 0)
-    where
-      go : Dec (readCode b ≡ 0) → k ≡ startOf b
-      go (no m) = is-if-ne _ m c
-      go (yes e) =
-          let a = answers e in
-          let q : refused n ≡ answered (a .0) = p ∙ a .1 in
-          let z : _≡_ {A = ℕ} 0 1 = cc in absurd (omega arith)
+  refuses : {k : ℕ} → refused k ≡ openMeaning b → readCode b ≡ 0 → ⊥
+  unfolding openMeaning replyOf
+  refuses {k} p e =
+      let q : refused k ≡ answered (countIn b ∷ (length b - distanceIn b) ∷ []) = p ∙ ifEq-yes _ e in
+      let z : _≡_ {A = ℕ} 0 1 = cc in omega arith
 
-  -- the positions of a reading
-  afterOf-min : (n : ℕ) → afterOf b (min n (countIn b)) ≡ min (suc n) (countIn b)
-  unfolding afterOf
-  afterOf-min n = go (decLt n (countIn b))
-    where
-      go : Dec (n < countIn b) → afterOf b (min n (countIn b)) ≡ min (suc n) (countIn b)
-      go (yes h) = ifLt-yes _ (omega arith) ∙ omega arith
-      go (no h) = ifLt-no _ (omega arith) ∙ omega arith
+  -- so what may be read by the answer is what may be read of the file
+  pub entries-by : (a : OpenAnswer) → openReply a ≡ openMeaning b → entriesBy a b ≡ entriesRead b
+  unfolding entriesBy entriesRead
+  entries-by (Opened k n) p = sym (ifEq-yes _ (accepts p))
+  entries-by (Refused r) p = sym (ifEq-no _ (refuses p))
 
-  positions : readCode b ≡ 0 → (n : ℕ) → positionOf b n ≡ min n (countIn b)
-  unfolding positionOf startOf
-  positions e zero = ifEq-yes _ e ∙ omega arith
-  positions e (suc n) = ap (afterOf b) (positions e n) ∙ afterOf-min n
+  pub front-by : (a : OpenAnswer) → openReply a ≡ openMeaning b → frontBy a b ≡ frontRead b
+  unfolding frontBy frontRead
+  front-by (Opened k n) p = sym (ifEq-yes _ (accepts p))
+  front-by (Refused r) p = sym (ifEq-no _ (refuses p))
 
-  stays : (i : ℕ) → countIn b ≤ i → countIn b ≤ afterOf b i
-  unfolding afterOf
-  stays i h = le-trans h (le-of-eq (sym (ifLt-no (i + 1) h)))
+-- a reading of any entries goes on to their end and stays there
+after-min : (es : List Entry) (n : ℕ) → afterIn es (min n (length es)) ≡ min (suc n) (length es)
+unfolding afterIn
+after-min es n = go (decLt n (length es))
+  where
+    go : Dec (n < length es) → afterIn es (min n (length es)) ≡ min (suc n) (length es)
+    go (yes h) = ifLt-yes _ (omega arith) ∙ omega arith
+    go (no h) = ifLt-no _ (omega arith) ∙ omega arith
 
-  past : (readCode b ≡ 0 → ⊥) → (n : ℕ) → countIn b ≤ positionOf b n
-  unfolding positionOf startOf
-  past m zero = le-of-eq (sym (ifEq-no 0 m))
-  past m (suc n) = stays (positionOf b n) (past m n)
+read-min : (es : List Entry) (n : ℕ) → readAt es (min n (length es)) ≡ readAt es n
+read-min es n = go (decLt n (length es))
+  where
+    go : Dec (n < length es) → readAt es (min n (length es)) ≡ readAt es n
+    go (yes h) = let p : min n (length es) ≡ n = omega arith in ap (readAt es) p
+    go (no h) = read-past es (min n (length es)) (omega arith) ∙ sym (read-past es n (omega arith))
 
-  -- the answers of a reading: an accepted file's entries in order, then 'end'; a refused file's 'end' throughout
-  pub reading : readCode b ≡ 0 → (n : ℕ) → readAt (entriesIn b) (positionOf b n) ≡ readAt (entriesIn b) n
-  reading e n = go (decLt n (countIn b))
-    where
-      go : Dec (n < countIn b) → readAt (entriesIn b) (positionOf b n) ≡ readAt (entriesIn b) n
-      go (yes h) = let p : min n (countIn b) ≡ n = omega arith in ap (readAt (entriesIn b)) (positions e n ∙ p)
-      go (no h) =
-          sym (reads-end b (positionOf b n) (omega (arith, positions e n))) ∙ reads-end b n (omega arith)
+module _ (f : RefT (List ℕ)) (r : Reader) (h : Begun f r) where
+  -- the file and the answer stay as they were
+  over : (n : ℕ) → after n r .list ≡ f
+  over zero = h .over
+  over (suc n) = over n
 
-  pub no-reading : (readCode b ≡ 0 → ⊥) → (n : ℕ) → readAt (entriesIn b) (positionOf b n) ≡ End
-  no-reading m n = sym (reads-end b (positionOf b n) (past m n))
+  reply : (n : ℕ) → openReply (after n r .answer) ≡ openMeaning (now f)
+  reply zero = h .reply
+  reply (suc n) = reply n
+
+  held : (n : ℕ) → entriesBy (after n r .answer) (now (after n r .list)) ≡ entriesRead (now f)
+  held n = ap (λ (g : RefT (List ℕ)). entriesBy (after n r .answer) (now g)) (over n) ∙ entries-by (now f) (after n r .answer) (reply n)
+
+  position : (n : ℕ) → after n r .at ≡ min n (length (entriesRead (now f)))
+  position zero = h .first ∙ omega arith
+  position (suc n) = ap₂ afterIn (held n) (position n) ∙ after-min (entriesRead (now f)) n
+
+  answers : (n : ℕ) → nextOf (after n r) ≡ readAt (entriesRead (now f)) n
+  answers n = ap₂ readAt (held n) (position n) ∙ read-min (entriesRead (now f)) n
+
+  -- every file is read so by the reader that begins on it
+  pub reading : Reads f r
+  reading =
+      record {
+        entries = answers;
+        ends = λ n l. answers n ∙ read-past (entriesRead (now f)) n l;
+        opened = reply;
+        front = λ n. ap (λ (g : RefT (List ℕ)). frontBy (after n r .answer) (now g)) (over n) ∙ front-by (now f) (after n r .answer) (reply n);
+      }
+
+-- the reader of a refused file and that of an accepted one, an empty list for one, differ in what `open` answered
+pub refused-differs : (f g : RefT (List ℕ)) (r s : Reader) → Begun f r → Begun g s → (readCode (now f) ≡ 0 → ⊥) → readCode (now g) ≡ 0
+    → r .answer ≡ s .answer → ⊥
+unfolding openMeaning replyOf
+refused-differs f g r s h k n e p =
+    let q : openMeaning (now f) ≡ openMeaning (now g) = sym (h .reply) ∙ ap openReply p ∙ k .reply in
+    n (accepts (now f) (sym (ifEq-yes _ e) ∙ sym q))

@@ -1,18 +1,60 @@
--- A reading goes entry by entry: the positions that a reader comes to.
-use Prim.Native.Nat.{ℕ, zero, suc, _+_}
-use mathlib.Core.List.{List}
-use Rattle.columns.specs.Test.{ifEq, ifLt}
-use Rattle.model.specs.Packed.{countIn, readCode}
+-- A reading of a packed list goes entry by entry over the lent file ("Packed list"): what may be read by what `open` answered, and the readers
+-- that a reading comes to.
+use Prim.Native.Nat.{ℕ, zero, suc, _+_, _≤_}
+use mathlib.Core.Path.{_≡_}
+use mathlib.Core.List.{List, []}
+use mathlib.Core.Bool.{Bool, true, false}
+use lib.ListN.{length}
+use denote.Ref.{RefT, now}
+use Rattle.columns.specs.Test.{ifLt, pick}
+use Rattle.model.specs.Packed.{entriesIn, entriesRead, frontOf, frontRead, openMeaning, readAt}
+use Rattle.model.specs.Reply.{openReply}
+use Rattle.model.specs.declared.Entry.{Entry}
+use Rattle.model.specs.declared.OpenAnswer.{OpenAnswer}
+use Rattle.model.specs.declared.OpenAnswer.the-variants.{Opened, Refused}
+use Rattle.model.specs.declared.ReadAnswer.{ReadAnswer}
+use Rattle.model.specs.declared.ReadAnswer.the-variants.{End}
+use Rattle.packed.specs.declared.Reader.{Reader}
 
--- the first: that of the first entry where the file may be read, else the end
-unfoldable pub startOf : List ℕ → ℕ
-startOf b = ifEq (readCode b) 0 0 (countIn b)
+abbrev pub isOpen : OpenAnswer → Bool
+isOpen (Opened k n) = true
+isOpen (Refused r) = false
 
--- the one after i; after the last entry, the end
-unfoldable pub afterOf : List ℕ → ℕ → ℕ
-afterOf b i = ifLt i (countIn b) (i + 1) i
+-- the entries of a file by what `open` answered, and the part in front; none where it was a refusal
+unfoldable pub entriesBy : OpenAnswer → List ℕ → List Entry
+entriesBy a b = pick (isOpen a) (entriesIn b) []
 
--- the one after n steps
-unfoldable pub positionOf : List ℕ → ℕ → ℕ
-positionOf b zero = startOf b
-positionOf b (suc n) = afterOf b (positionOf b n)
+unfoldable pub frontBy : OpenAnswer → List ℕ → List ℕ
+frontBy a b = pick (isOpen a) (frontOf b) []
+
+-- the position after i while an entry is there, else i
+unfoldable pub afterIn : List Entry → ℕ → ℕ
+afterIn es i = ifLt i (length es) (i + 1) i
+
+-- r is a reader that begins on the file f
+pub record Begun (f : RefT (List ℕ)) (r : Reader) : Type 0 where
+  pub over : r .list ≡ f
+  pub first : r .at ≡ 0
+  pub reply : openReply (r .answer) ≡ openMeaning (now f)
+
+-- what a reader answers: the entry that comes next or 'end', and the part in front
+abbrev pub nextOf : Reader → ReadAnswer
+nextOf r = readAt (entriesBy (r .answer) (now (r .list))) (r .at)
+
+abbrev pub frontHeld : Reader → List ℕ
+frontHeld r = frontBy (r .answer) (now (r .list))
+
+-- the reader after r, and the one after n steps
+abbrev pub advanced : Reader → Reader
+advanced r = record { list = r .list; at = afterIn (entriesBy (r .answer) (now (r .list))) (r .at); answer = r .answer }
+
+abbrev pub after : ℕ → Reader → Reader
+after zero r = r
+after (suc n) r = advanced (after n r)
+
+-- a reading from r is that of the file f, at every step: its answers are the entries that may be read, in order, and then 'end'
+pub record Reads (f : RefT (List ℕ)) (r : Reader) : Type 0 where
+  pub entries : (n : ℕ) → nextOf (after n r) ≡ readAt (entriesRead (now f)) n
+  pub ends : (n : ℕ) → length (entriesRead (now f)) ≤ n → nextOf (after n r) ≡ End
+  pub opened : (n : ℕ) → openReply (after n r .answer) ≡ openMeaning (now f)
+  pub front : (n : ℕ) → frontHeld (after n r) ≡ frontRead (now f)

@@ -1,7 +1,9 @@
-// Packed lists: entries packed into bytes and read back, behind any bytes in front. In order: 15 of entries; reading by position (`open`,
-// `entry_at`, `front`); a reading entry by entry (`Reader`: `start`, `next`, `advance`, `front_of`); packing (`pack`). In `fill`, reading
-// into a lent run of records (`read`).
-// Relies on the definitions of `model`, on `file` for numbers in a file and on `columns` for left sides.
+// Packed lists: entries packed into bytes and read back, behind any bytes in front. In order: 15 of entries; whether a file may be read, and
+// the part in front (`open`, `front`); a reading entry by entry (`Reader`: `start`, `opened`, `next`, `advance`, `front_of`); packing (`pack`).
+// In `fill`, reading into a lent run of records (`read`). A file that `open` refuses gives the refusal, 'end' and no byte in front, never an
+// entry.
+// Relies on the definitions of `model`, on `file` for numbers in a file and on `columns` for left sides. Called by hosts and
+// programs.
 mod fill;
 
 pub use fill::read;
@@ -17,10 +19,10 @@ ghost use Rattle.model.specs.Bytes.{bytes4};
 ghost use Rattle.model.specs.Entry.{earlier};
 ghost use Rattle.model.specs.Refusal.{orElse};
 ghost use Rattle.model.specs.Reply.{openReply, packReply};
-ghost use Rattle.model.specs.Packed.{entryCode, laterCode, entriesCode, entryAt, entriesFrom, entriesIn};
-ghost use Rattle.model.specs.Packed.{bytesOf, countIn, distanceIn, frontOf, openMeaning, readAt, packMeaning, outputAfter};
+ghost use Rattle.model.specs.Packed.{entryCode, laterCode, entriesCode, entryAt, entriesFrom};
+ghost use Rattle.model.specs.Packed.{bytesOf, countIn, distanceIn, frontRead, openMeaning, readAt, packMeaning, outputAfter};
 ghost use Rattle.packed.specs.Verdict.{badUnless};
-ghost use Rattle.packed.specs.Reading.{startOf, afterOf};
+ghost use Rattle.packed.specs.Reading.{isOpen, entriesBy, frontBy, afterIn, Begun, nextOf, frontHeld, advanced};
 ghost use Rattle.packed.specs.Packing.{Started, Passed, Wrote, Finished, Ready, Stepped};
 use columns::COLUMN_BOUND;
 use columns::ColumnSet;
@@ -200,10 +202,26 @@ pub fn open(file: &[u8]) -> OpenAnswer
     }
 }
 
-// The entry at position i of the list, and 'end' from its last entry on.
-pub fn entry_at(file: &[u8], i: u32) -> ReadAnswer
-    ensures { λ r. ⌜ r ≡ readAt (entriesIn (now (file .entry))) i ⌝ }
+// Was the file opened?
+fn is_open(answer: OpenAnswer) -> bool
+    ensures { λ r. ⌜ r ≡ isOpen answer ⌝ }
 {
+    match answer {
+        OpenAnswer::Opened {
+            entries: _,
+            front: _,
+        } => true,
+        OpenAnswer::Refused(_) => false,
+    }
+}
+
+// The entry at position i of a file that `open` gave an answer; 'end' from the last entry on, and where the file was refused.
+fn entry_at(file: &[u8], i: u32, answer: OpenAnswer) -> ReadAnswer
+    ensures { λ r. ⌜ r ≡ readAt (entriesBy answer (now (file .entry))) i ⌝ }
+{
+    if !is_open(answer) {
+        return ReadAnswer::End;
+    }
     if count_in(file) <= i {
         return ReadAnswer::End;
     }
@@ -211,74 +229,88 @@ pub fn entry_at(file: &[u8], i: u32) -> ReadAnswer
     ReadAnswer::Next(entry_from(file, at))
 }
 
-// The part in front of the list.
-pub fn front(file: &[u8]) -> &[u8]
-    ensures { λ r. ⌜ now r ≡ frontOf (now (file .entry)) ⌝ }
+// The position after i while an entry is there, else i.
+fn position_after(file: &[u8], i: u32, answer: OpenAnswer) -> u32
+    ensures { λ r. ⌜ r ≡ afterIn (entriesBy answer (now (file .entry))) i ⌝ }
 {
-    let first = first_in(file);
-    &file[..first]
-}
-
-// The position at which a reading begins: the first entry, or the end where the file may not be read.
-fn first_position(file: &[u8]) -> u32
-    ensures { λ r. ⌜ r ≡ startOf (now (file .entry)) ⌝ }
-{
-    match open(file) {
-        OpenAnswer::Opened {
-            entries: _,
-            front: _,
-        } => 0,
-        OpenAnswer::Refused(_) => count_in(file),
+    if !is_open(answer) {
+        return i;
     }
-}
-
-// The position after i; after the last entry, the end.
-fn position_after(file: &[u8], i: u32) -> u32
-    ensures { λ r. ⌜ r ≡ afterOf (now (file .entry)) i ⌝ }
-{
     if i < count_in(file) {
         return i + 1;
     }
     i
 }
 
-// A reading of a packed list, entry by entry over the lent file: the file, and the position of the entry that comes next.
+// The part in front of the list; no byte where the file was refused.
+fn front_by(file: &[u8], answer: OpenAnswer) -> &[u8]
+    ensures { λ r. ⌜ now r ≡ frontBy answer (now (file .entry)) ⌝ }
+{
+    if !is_open(answer) {
+        return &file[..0];
+    }
+    let first = first_in(file);
+    &file[..first]
+}
+
+// The part in front of the list of a file; no byte where `open` refuses the file.
+pub fn front(file: &[u8]) -> &[u8]
+    ensures { λ r. ⌜ now r ≡ frontRead (now (file .entry)) ⌝ }
+{
+    let answer = open(file);
+    front_by(file, answer)
+}
+
+// A reading of a packed list, entry by entry over the lent file: the file, the position of the entry that comes next, and what `open` answers.
 pub struct Reader<'a> {
     list: &'a [u8],
     at: u32,
+    answer: OpenAnswer,
 }
 
-// A reading of a file, at its first entry if `open` accepts the file, and at the end otherwise.
+// A reading of a file, at its first entry. It passes over the list once, for `open`; what follows costs no pass.
 pub fn start<'a>(file: &'a [u8]) -> Reader<'a>
-    ensures { λ r. ⌜ (r .list ≡ file .entry) × (r .at ≡ startOf (now (file .entry))) ⌝ }
+    ensures { λ r. ⌜ Begun (file .entry) r ⌝ }
 {
-    let at = first_position(file);
-    Reader { list: file, at: at }
+    let answer = open(file);
+    Reader {
+        list: file,
+        at: 0,
+        answer: answer,
+    }
 }
 
-// The entry that comes next, or 'end'.
-pub fn next<'a>(r: Reader<'a>) -> ReadAnswer
-    ensures { λ a. ⌜ a ≡ readAt (entriesIn (now (r .entry .list))) (r .entry .at) ⌝ }
+// What `open` answers: how many entries and how many bytes in front, or the refusal.
+pub fn opened<'a>(r: Reader<'a>) -> OpenAnswer
+    ensures { λ a. ⌜ a ≡ r .entry .answer ⌝ }
 {
-    entry_at(r.list, r.at)
+    r.answer
+}
+
+// The entry that comes next, or 'end'; always 'end' where the file was refused.
+pub fn next<'a>(r: Reader<'a>) -> ReadAnswer
+    ensures { λ a. ⌜ a ≡ nextOf (r .entry) ⌝ }
+{
+    entry_at(r.list, r.at, r.answer)
 }
 
 // The reading after that entry; at the end it stays there.
 pub fn advance<'a>(r: Reader<'a>) -> Reader<'a>
-    ensures { λ q. ⌜ (q .list ≡ r .entry .list) × (q .at ≡ afterOf (now (r .entry .list)) (r .entry .at)) ⌝ }
+    ensures { λ q. ⌜ q ≡ advanced (r .entry) ⌝ }
 {
-    let at = position_after(r.list, r.at);
+    let at = position_after(r.list, r.at, r.answer);
     Reader {
         list: r.list,
         at: at,
+        answer: r.answer,
     }
 }
 
-// The part of the file in front of the list.
+// The part of the file in front of the list; no byte where the file was refused.
 pub fn front_of<'a>(r: Reader<'a>) -> &'a [u8]
-    ensures { λ s. ⌜ now s ≡ frontOf (now (r .entry .list)) ⌝ }
+    ensures { λ s. ⌜ now s ≡ frontHeld (r .entry) ⌝ }
 {
-    front(r.list)
+    front_by(r.list, r.answer)
 }
 
 // Where packing stands: the entries are passed twice, first to check them, then to write them. While it is going on, an entry is to come:

@@ -1,11 +1,15 @@
 -- `packed::position_after` meets its contract.
-use mathlib.Core.Path.{refl}
 use native.Mathlib.Omega.{arith}
 use borrow.Author.Needs.{needs}
-use Rattle.columns.proofs.Test.{is-if-lt, is-if-not-lt}
-use Rattle.packed.specs.Reading.{afterOf}
+use Rattle.packed.proofs.Reading.{refused-stays, opened-moves, opened-stays}
 use Rattle.packed.proofs.position_after.Statement.{statement}
 use Rattle.packed.proofs.position_after.Tie as tie
+
+is-open-requires : tie.Need-is-open-requires
+is-open-requires c κs = search needs
+
+returns : tie.Need-returns
+returns c = refused-stays _ _ _ (c .before .is-open .ensures) (c .if1 .taken) _
 
 count-in-requires : tie.Need-count-in-requires
 count-in-requires c κs = search needs
@@ -13,13 +17,11 @@ count-in-requires c κs = search needs
 add-result : tie.Need-add-result
 add-result c = search needs
 
-returns : tie.Need-returns
-unfolding afterOf
-returns c = is-if-lt _ (omega arith) refl
-
 returns-2 : tie.Need-returns-2
-unfolding afterOf
-returns-2 c = is-if-not-lt _ (omega arith) refl
+returns-2 c = opened-moves _ _ _ (c .before .before .before .is-open .ensures) (c .before .before .if1 .left) _ (omega arith)
+
+returns-3 : tie.Need-returns-3
+returns-3 c = opened-stays _ _ _ (c .before .before .before .is-open .ensures) (c .before .before .if1 .left) _ (omega arith)
 
 pub position-after-spec : {M : Type 1} → statement M
-position-after-spec = tie.close (tie.spec count-in-requires add-result returns returns-2)
+position-after-spec = tie.close (tie.spec is-open-requires returns count-in-requires add-result returns-2 returns-3)
