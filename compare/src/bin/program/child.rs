@@ -1,5 +1,6 @@
 //! The listing program as a child process: its input handed over and its output taken, at once or bit by bit.
 
+use std::fmt::{Display, Formatter};
 use std::io::{ErrorKind, Read, Write};
 use std::path::Path;
 use std::process::{Child, ChildStdin, ChildStdout, Command, Stdio};
@@ -17,7 +18,7 @@ const SIGCONT: i32 = 18;
 const SIGSTOP: i32 = 19;
 
 /// How the input is handed over and the output taken.
-#[derive(Clone, Debug)]
+#[derive(Clone)]
 pub struct Way {
     /// Where the input is cut: before each part but the first there is a pause.
     pub cuts: Vec<usize>,
@@ -50,6 +51,16 @@ impl Way {
     /// The output taken slowly, and writes that wait cut short.
     pub fn interrupted(taken: usize) -> Way {
         Way { taken, stopped: true, ..Way::at_once() }
+    }
+}
+
+impl Display for Way {
+    fn fmt(&self, out: &mut Formatter) -> std::fmt::Result {
+        write!(out, "input in {} parts, output ", self.cuts.len() + 1)?;
+        match self.taken {
+            0 => write!(out, "at once"),
+            taken => write!(out, "{taken} bytes at a time{}", if self.stopped { ", writes cut" } else { "" }),
+        }
     }
 }
 

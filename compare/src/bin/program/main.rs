@@ -44,7 +44,7 @@ impl Trial {
             Ok(output) => first_difference(&output, expected.as_bytes()),
         };
         let hex: String = input.iter().map(|byte| format!("{byte:02x}")).collect();
-        Err(format!("{name}, {way:?}\n{difference}\ninput of {} bytes:\n{hex}", input.len()))
+        Err(format!("{name}, {way}\n{difference}\ninput of {} bytes:\n{hex}", input.len()))
     }
 
     fn count(&mut self, text: &str) {
