@@ -1,23 +1,29 @@
 /*
  * cagberin.h - what determines what in a media catalogue.
  *
- * A media catalogue is a file of tables in a tree. The library checks one, says whether a dependency holds in
- * it, gives two rows that break one, lists all minimal dependencies and keys in steps, and packs and reads such
- * lists.
+ * A media catalogue is a file of tables in a tree. The calls check one, say whether a dependency holds in it, give
+ * two rows that break one, list all minimal dependencies and keys in steps, and pack and read such lists.
+ * examples/c/example.c makes each call.
  *
- * The library allocates nothing, keeps nothing between calls and calls nothing: all memory is lent by the
- * caller for the time of a call, and calls on separate memory may run at the same time. Link with libhost.a; it
- * needs no other library.
+ * Link with libhost.a, an archive for x86-64 Linux. Of the outside it needs memcpy and memset, nothing else.
  *
- * Lent memory. A pointer is followed by the number of its elements and must be valid for that many; it must not
- * be NULL, also where the number is 0. A pointer to a single number must be valid for that number. What is
- * written must overlap nothing else that is lent to the same call. Bytes need no alignment; words, numbers and
- * entry records have that of their C types.
+ * Replies. Every call returns one signed number: below 0 a refusal, from 0 on an answer. A refusal is one of the
+ * constants of enum cagberin_refusal, all below 0; compare the number returned with them as it stands. As a C
+ * condition a refusal is true, so test for `< 0` first.
  *
- * Refusals. A call that refuses returns the refusal's number made negative, as -CAGBERIN_TORN, and alters no
- * lent memory, with one exception: after CAGBERIN_TRAY_FULL every work word is 0. Where there are several
- * grounds, the file's refusals (1 to 7) come first, 1 and 2 before all, then table by table; the others follow
- * by number.
+ * Refusals alter no lent memory, with one exception: after CAGBERIN_TRAY_FULL every work word is 0.
+ *
+ * Lent memory. All memory is the caller's, lent for the time of a call; the library allocates nothing and keeps
+ * nothing between calls. A pointer to several elements is followed by their number, a size_t, and must be valid for
+ * that many; it must not be NULL, also where the number is 0. A pointer to a single number must be valid for that
+ * number. What is behind a pointer to const is only read. What is behind any other pointer may be written, needs no
+ * initialising, and must overlap nothing else that is lent to the same call. Bytes need no alignment; words, numbers
+ * and entry records have that of their C types.
+ *
+ * Threads. Several threads may share one catalogue or packed list, since calls only read it, as long as nobody alters
+ * it meanwhile. What a call may write must be each thread's own.
+ *
+ * Stack. cagberin_list needs up to 640 KB (655,360 bytes) of stack, each other call up to 16 KB (16,384 bytes).
  */
 #ifndef CAGBERIN_H
 #define CAGBERIN_H
@@ -32,12 +38,12 @@ extern "C" {
 /*
  * The catalogue file. Numbers are unsigned, little-endian. Tables follow each other from byte 0 without gaps. A
  * table is: columns c (2 bytes), parent table (2), rows r (2), then r rows. A row is its parent row (2 bytes) and
- * c codes of 4 bytes. Codes are only compared for equality; one stands for a missing cell. Table 0 is the root;
- * every other table has a lower-numbered parent. The trailer ends the file: one 4-byte offset for each table, the
- * number of tables t (2 bytes), the offset of the trailer's first byte (4).
+ * c codes of 4 bytes. Code CAGBERIN_MISSING means that the cell is missing; every other code is a value, and codes
+ * are only compared for equality. Table 0 is the root: its parent table, and the parent row of each of its rows, is
+ * CAGBERIN_NO_PARENT. Every other table has a lower-numbered parent. The trailer ends the file: one 4-byte offset
+ * for each table, the number of tables t (2 bytes), the offset of the trailer's first byte (4).
  *
- * The packed list. k entries of 4 bytes, then k (4 bytes), then the distance from the end of the file back to the
- * first entry (4), which is 4k + 8. Bytes in front, such as the catalogue, belong to the caller.
+ * The visible columns of a table are its ancestors' columns, root first, then its own, numbered from 0.
  */
 
 /* ---- Bounds ---- */
@@ -47,7 +53,8 @@ extern "C" {
 #define CAGBERIN_ROWS 4096            /* rows of a table: 0 to 4,096 */
 #define CAGBERIN_SMALLEST_FILE 16     /* bytes of the smallest catalogue */
 #define CAGBERIN_WORK_WORDS 16384     /* work words that a question, a pair or a listing needs at least */
-#define CAGBERIN_MANY_WORDS 65536     /* work words at which a listing of 16 visible columns is fastest */
+#define CAGBERIN_MANY_WORDS 65536     /* a work word for each left side of 16 visible columns: see cagberin_list */
+#define CAGBERIN_SET_ENTRIES 17       /* entries of one set, at most: 16 columns and the row */
 
 /* ---- Codes ---- */
 
@@ -57,112 +64,160 @@ extern "C" {
 
 /* ---- Refusals ---- */
 
+/*
+ * The numbers that calls return. The document's number is the same without the sign; its word and its condition
+ * stand beside each.
+ *
+ * Where there are several grounds, the first in this order is returned: 1 and 2; then table by table its offset and 6
+ * bytes (3), 4, 5, 6, its rows' extent (3), each row (7); after the last table, left bytes (3); then 8 to 16 by
+ * number. A list is checked for 14 first, then entry by entry for 15.
+ */
 enum cagberin_refusal {
-    CAGBERIN_TORN = 1,            /* torn: file under 16 bytes */
-    CAGBERIN_NO_TAIL = 2,         /* no tail: the number of tables t is 0 or over 16, or trailer offset + 4t + 6
-                                     isn't the file's length */
-    CAGBERIN_MISPLACED = 3,       /* misplaced: a table's offset isn't the end of the one before (0 for the first),
-                                     its 6 bytes or its rows pass the trailer's first byte, or bytes are left after
-                                     the last table */
-    CAGBERIN_OVERSIZE = 4,        /* oversize: columns over 16 or rows over 4,096 */
-    CAGBERIN_NO_STEM = 5,         /* no stem: wrong parent table */
-    CAGBERIN_TOO_WIDE = 6,        /* too wide: over 16 visible columns */
-    CAGBERIN_STRAY_ROW = 7,       /* stray row: a root row's parent isn't 65,535, or another's isn't below the parent
-                                     table's rows */
-    CAGBERIN_UNKNOWN_TABLE = 8,   /* unknown table: target not below the number of tables */
-    CAGBERIN_UNKNOWN_COLUMN = 9,  /* unknown column: left has a bit at or above the target's visible columns */
-    CAGBERIN_UNKNOWN_RIGHT = 10,  /* unknown right: neither an own column of the target nor 255 */
-    CAGBERIN_SMALL_BENCH = 11,    /* small bench: under 16,384 work words */
-    CAGBERIN_PAST_THE_END = 12,   /* past the end: place above the last */
-    CAGBERIN_TRAY_FULL = 13,      /* tray full: budget above 0, place below the last, and the very next set has more
-                                     entries than the run has records */
-    CAGBERIN_NO_LIST = 14,        /* no list: under 8 bytes, distance isn't 4k + 8, or distance above the length */
-    CAGBERIN_BAD_ENTRY = 15,      /* bad entry: target over 15, right neither below 16 nor 255, right in left, or not
-                                     later in listing order than the one before */
-    CAGBERIN_SHORT_SHEET = 16     /* short sheet: output under 4k + 8 bytes */
+    CAGBERIN_TORN = -1,            /* torn: file under 16 bytes */
+    CAGBERIN_NO_TAIL = -2,         /* no tail: the number of tables t is 0 or over 16, or trailer offset + 4t + 6
+                                      isn't the file's length */
+    CAGBERIN_MISPLACED = -3,       /* misplaced: a table's offset isn't the end of the one before (0 for the first),
+                                      its 6 bytes or its rows pass the trailer's first byte, or bytes are left after
+                                      the last table */
+    CAGBERIN_OVERSIZE = -4,        /* oversize: columns over 16 or rows over 4,096 */
+    CAGBERIN_NO_STEM = -5,         /* no stem: wrong parent table */
+    CAGBERIN_TOO_WIDE = -6,        /* too wide: over 16 visible columns */
+    CAGBERIN_STRAY_ROW = -7,       /* stray row: a root row's parent isn't 65,535, or another's isn't below the
+                                      parent table's rows */
+    CAGBERIN_UNKNOWN_TABLE = -8,   /* unknown table: target not below the number of tables */
+    CAGBERIN_UNKNOWN_COLUMN = -9,  /* unknown column: left has a bit at or above the target's visible columns */
+    CAGBERIN_UNKNOWN_RIGHT = -10,  /* unknown right: neither an own column of the target nor 255 */
+    CAGBERIN_SMALL_BENCH = -11,    /* small bench: under 16,384 work words */
+    CAGBERIN_PAST_THE_END = -12,   /* past the end: place above the last */
+    CAGBERIN_TRAY_FULL = -13,      /* tray full: budget above 0, place below the last, and the very next set has
+                                      more entries than the run has records */
+    CAGBERIN_NO_LIST = -14,        /* no list: under 8 bytes, distance isn't 4k + 8, or distance above the length */
+    CAGBERIN_BAD_ENTRY = -15,      /* bad entry: target over 15, right neither below 16 nor 255, right in left, or
+                                      not later in listing order than the one before */
+    CAGBERIN_SHORT_SHEET = -16     /* short sheet: output under 4k + 8 bytes */
 };
 
-/* ---- Entries ---- */
+/* ---- Dependencies and entries ---- */
 
 /*
- * One listed dependency or key: 4 bytes, aligned to 2, no padding. In a packed list an entry is the same 4
- * bytes in the same order, left little-endian.
+ * A dependency has a target, a left side and a right side. The target is a table, by number. The left side is a set
+ * of its visible columns: bit k is visible column k. The right side is one own column of the target, by its visible
+ * number, or CAGBERIN_ROW.
+ *
+ * Two rows of the target agree on a visible column if they reach, by their parent rows, the same row of that column's
+ * table, or if both cells are present with equal codes. So a missing cell agrees only with itself. They agree on a
+ * set if they agree on each member, and always agree on the empty set. They agree on CAGBERIN_ROW only if they are
+ * one row.
+ *
+ * A dependency holds if all pairs of rows of the target that agree on the left agree on the right. It is minimal if
+ * it holds, the right isn't in the left, and no left with a column less holds.
+ *
+ * An entry is one minimal dependency or key. Its fields stand in the order target, right, left, as in a packed list;
+ * the arguments of the calls come in the order target, left, right. The record has 4 bytes, is aligned to 2 and has
+ * no padding.
  */
 struct cagberin_entry {
-    uint8_t target;  /* table number */
-    uint8_t right;   /* visible number of an own column of the target, or CAGBERIN_ROW */
-    uint16_t left;   /* the left side: bit k is visible column k */
+    uint8_t target;
+    uint8_t right;
+    uint16_t left;
 };
 
 /*
- * Visible columns of a table: its ancestors' columns, root first, then its own, numbered from 0.
+ * Listing order: by target; within a target left sides by size, then by number; within a left side rights by number,
+ * 255 last. A target with n visible columns has 2^n sets. Place p means that the first p sets over all targets have
+ * been passed; the last place is the number of sets over all targets.
  *
- * Two rows agree on a visible column if they reach the same row of that column's table, or if both cells are
- * present with equal codes. A dependency holds if all pairs of rows of the target that agree on the left side
- * agree on the right. It is minimal if the right isn't in the left and no left side with a column less holds.
- *
- * Listing order: by target; within it left sides by size, then by number; within a left side rights by number,
- * 255 last. A target with n visible columns has 2^n sets. Place p means that the first p sets over all targets
- * have been passed; the last place is the number of sets over all targets.
+ * The packed list. k entries of 4 bytes: target (1 byte), right (1), left (2, little-endian). Then k (4 bytes), then
+ * the distance from the end of the file back to the first entry (4), which is 4k + 8. Bytes in front, such as the
+ * catalogue, belong to the caller.
  */
 
 /* ---- Calls ---- */
 
 /*
  * Checks a catalogue.
- * Returns 0, with the number of tables in *tables and of sets over all targets in *sets; or refusal 1 to 7,
- * both unaltered.
+ *
+ * Returns 0 if it is sound, with the number of tables in *tables and of sets over all targets in *sets.
+ * Refusals: 1 to 7; *tables and *sets are unaltered.
  */
 int32_t cagberin_check(const uint8_t *cat, size_t cat_len, uint32_t *tables, uint32_t *sets);
 
 /*
- * Asks whether the left side gives the right in the target table.
- * Returns 1 if the dependency holds and 0 if two rows break it; every work word is then 0. Refusals: 1 to 11.
+ * Asks whether a dependency holds.
+ *
+ * Returns 1 if it holds and 0 if two rows break it; every work word is then 0.
+ * Refusals: 1 to 11; the work words are unaltered.
+ *
+ * Compare with 1: a refusal is no yes, though a C condition takes it for one. cagberin_pair has its 1 and 0 the other
+ * way round.
  */
 int32_t cagberin_ask(const uint8_t *cat, size_t cat_len, uint32_t target, uint32_t left, uint32_t right,
                      uint32_t *work, size_t words);
 
 /*
- * Looks for two rows of the target that agree on the left side and disagree on the right.
- * Returns 1 with such a pair in *first and *second, the lower row first (any such pair may come); or 0 if the
- * dependency holds, both unaltered. Every work word is then 0. Refusals: 1 to 11, both unaltered.
+ * Looks for a breaking pair: two rows of the target that agree on the left and disagree on the right.
+ *
+ * Returns 1 if there is one, so the dependency doesn't hold, with such rows in *first and *second, the lower row
+ * first; any such pair may come. Returns 0 if there is none, so the dependency holds; *first and *second are then
+ * unaltered. After 1 and 0 every work word is 0.
+ * Refusals: 1 to 11; *first, *second and the work words are unaltered.
+ *
+ * Compare with 1: a refusal is no pair, though a C condition takes it for one. cagberin_ask has its 1 and 0 the other
+ * way round.
  */
 int32_t cagberin_pair(const uint8_t *cat, size_t cat_len, uint32_t target, uint32_t left, uint32_t right,
                       uint32_t *work, size_t words, uint32_t *first, uint32_t *second);
 
 /*
- * Lists: passes sets from a place on, until the budget (a number of sets) or the last place is reached, or the
- * next set's entries no longer all fit in the run.
- * Returns the number of entries, which stand at the start of the run in listing order; the other records are
- * unaltered. *next_place is the place reached, *passed the number of sets passed, and every work word is 0.
- * Refusals: 1 to 7, 11, 12, 13, the run and both numbers unaltered; after 13 every work word is 0.
+ * Lists: passes sets from a place on, until as many as the budget are passed, the last place is reached, or the next
+ * set's entries no longer all fit in the run.
  *
- * A whole listing begins at place 0 and goes on from each place returned until it is the number of sets; a run
- * of 17 records never gets 13. Budgets, runs and work words may differ at each call.
+ * Returns the number of entries of these sets. They stand at the start of the run in listing order; the other records
+ * are unaltered. *next_place is the place reached, *passed the number of sets passed, and every work word is 0.
+ * Refusals: 1 to 7, 11, 12, 13; the run, *next_place and *passed are unaltered, and the work words too, save that
+ * after 13 every one is 0.
+ *
+ * A whole listing begins at place 0, hands each call the place that the one before reached, and is whole when that is
+ * the number of sets: the entries of all calls, one after the other, are then every minimal dependency and key, once,
+ * in listing order. Budgets, runs and work words may differ at each call. A return of 0 is not the end: sets may
+ * have no entries. Budget 0 passes nothing, so a loop with it never ends. A run of CAGBERIN_SET_ENTRIES records or
+ * more never gets 13.
+ *
+ * With 2^n work words, CAGBERIN_MANY_WORDS for 16 columns, a target of n visible columns was mostly listed faster
+ * where measured.
  */
 int64_t cagberin_list(const uint8_t *cat, size_t cat_len, uint32_t place, uint32_t budget,
                       struct cagberin_entry *run, size_t records, uint32_t *work, size_t words,
                       uint32_t *next_place, uint32_t *passed);
 
 /*
- * Packs k entries, which are in listing order.
- * Returns the number of bytes written from the start of out, 4k + 8; the others are unaltered. Refusals: 15, 16.
+ * Packs k entries, which must be in listing order, none twice.
+ *
+ * Returns the number of bytes written from the start of out, 4k + 8; the other bytes are unaltered.
+ * Refusals: 15, then 16; out is unaltered.
  */
-int64_t cagberin_pack(const struct cagberin_entry *entries, size_t count, uint8_t *out, size_t out_len);
+int64_t cagberin_pack(const struct cagberin_entry *entries, size_t k, uint8_t *out, size_t out_len);
 
 /*
  * Opens the packed list that ends a file.
+ *
  * Returns the number of its entries, with the number of bytes in front of the list in *front.
- * Refusals: 14, 15, *front unaltered.
+ * Refusals: 14, 15; *front is unaltered.
  */
-int64_t cagberin_open(const uint8_t *file, size_t len, uint64_t *front);
+int64_t cagberin_open(const uint8_t *file, size_t len, size_t *front);
 
 /*
- * Reads one entry, counted from 0, of the packed list that ends a file which cagberin_open accepted.
- * Returns 1 with the entry in *target, *left and *right; or 0 after the last entry, all three unaltered.
+ * Reads entries of the packed list that ends a file into a run, from an index on, as many as it has records. The
+ * first entry has index 0.
+ *
+ * Returns how many were read: 0 if from is at or past the number of entries, or if the run has no records. They stand
+ * at the start of the run; the other records are unaltered.
+ * Refusals: 14, 15, whatever was called before; the run is unaltered.
+ *
+ * Every call checks the whole list first, so one call with a large run reads a list with less work than many with
+ * small ones.
  */
-int32_t cagberin_read(const uint8_t *file, size_t len, uint32_t index,
-                      uint32_t *target, uint32_t *left, uint32_t *right);
+int64_t cagberin_read(const uint8_t *file, size_t len, size_t from, struct cagberin_entry *run, size_t records);
 
 #ifdef __cplusplus
 }

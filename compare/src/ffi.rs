@@ -43,15 +43,8 @@ mod raw {
             passed: *mut u32,
         ) -> i64;
         pub fn cagberin_pack(entries: *const Entry, count: usize, out: *mut u8, out_len: usize) -> i64;
-        pub fn cagberin_open(file: *const u8, len: usize, front: *mut u64) -> i64;
-        pub fn cagberin_read(
-            file: *const u8,
-            len: usize,
-            index: u32,
-            target: *mut u32,
-            left: *mut u32,
-            right: *mut u32,
-        ) -> i32;
+        pub fn cagberin_open(file: *const u8, len: usize, front: *mut usize) -> i64;
+        pub fn cagberin_read(file: *const u8, len: usize, from: usize, run: *mut Entry, records: usize) -> i64;
     }
 }
 
@@ -104,11 +97,11 @@ pub fn pack(entries: &[Entry], out: &mut [u8]) -> i64 {
 }
 
 /// The number of entries, or a refusal; the number of bytes in front is written only with a number of entries.
-pub fn open(file: &[u8], front: &mut u64) -> i64 {
+pub fn open(file: &[u8], front: &mut usize) -> i64 {
     unsafe { raw::cagberin_open(file.as_ptr(), file.len(), front) }
 }
 
-/// 1 an entry, 0 the end; for a file that `open` accepted. The numbers are written only on 1.
-pub fn read(file: &[u8], index: u32, target: &mut u32, left: &mut u32, right: &mut u32) -> i32 {
-    unsafe { raw::cagberin_read(file.as_ptr(), file.len(), index, target, left, right) }
+/// How many entries were read from an index on into the run, or a refusal.
+pub fn read(file: &[u8], from: usize, run: &mut [Entry]) -> i64 {
+    unsafe { raw::cagberin_read(file.as_ptr(), file.len(), from, run.as_mut_ptr(), run.len()) }
 }

@@ -74,9 +74,9 @@ pub struct Numbers<N> {
     cells: [N; 7],
 }
 
-impl<N: Copy + PartialEq + From<u32>> Numbers<N> {
+impl<N: Copy + PartialEq + TryFrom<u32>> Numbers<N> {
     pub fn new(random: &mut Random) -> Numbers<N> {
-        let noise = [(); 7].map(|()| N::from(random.number() as u32));
+        let noise = [(); 7].map(|()| N::try_from(random.number() as u32).ok().expect("a number of 32 bits or more"));
         Numbers { noise, cells: noise }
     }
 

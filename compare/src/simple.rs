@@ -1,4 +1,5 @@
-//! Document 01 in plain loops: check, question, breaking pair, full listing, listing call, packed list.
+//! Document 01 in plain loops: check, question, breaking pair, full listing, listing call, packed list, the text
+//! that the listing program prints.
 //!
 //! Nothing here is fast. Each function renders one sentence or one table row of the document, in the document's
 //! order.
@@ -454,9 +455,46 @@ pub fn open(file: &[u8]) -> Result<List, Refusal> {
     Ok(List { front, entries })
 }
 
-impl List {
-    /// The entry of this number, or none after the last.
-    pub fn read(&self, index: u32) -> Option<Entry> {
-        self.entries.get(index as usize).copied()
+/// Reads entries from an index on into a run, as many as fit, after 14 and 15 over the whole list. Returns how many:
+/// none from the last entry on.
+pub fn read(file: &[u8], from: usize, run: &mut [Entry]) -> Result<usize, Refusal> {
+    let list = open(file)?;
+    let mut count = 0;
+    for (index, entry) in list.entries.iter().enumerate() {
+        if index >= from && count < run.len() {
+            run[count] = *entry;
+            count += 1;
+        }
     }
+    Ok(count)
+}
+
+// ---- The listing program ("The album catalogue") ----
+
+/// "The listing program reads a catalogue of at most 32,768 bytes from standard input."
+pub const INPUT_BYTES: usize = 32_768;
+
+/// What the program prints for an input. `entries` gives the full listing of a catalogue.
+pub fn printed(input: &[u8], entries: impl Fn(&Catalogue) -> Vec<Entry>) -> String {
+    if input.len() > INPUT_BYTES {
+        return "too long\n".into();
+    }
+    match check(input) {
+        Err(refusal) => format!("refused {}\n", refusal as u32),
+        Ok(catalogue) => {
+            let entries = entries(&catalogue);
+            let head = [catalogue.tables.len(), catalogue.sets() as usize, entries.len()];
+            let mut text = format!("tables {} sets {} entries {}\n", head[0], head[1], head[2]);
+            for entry in entries {
+                text += &printed_entry(entry);
+            }
+            text
+        }
+    }
+}
+
+/// "Each other line is target, left as a number, right, with 255 printed as `row`."
+fn printed_entry(entry: Entry) -> String {
+    let right = if entry.right as u32 == ROW { "row".into() } else { entry.right.to_string() };
+    format!("{} {} {right}\n", entry.target, entry.left)
 }

@@ -126,3 +126,32 @@ fn packed_lists_round_trip() {
     assert_eq!(pack(&twice, &mut []), Err(Refusal::BadEntry));
     assert_eq!(open(&output[..7]), Err(Refusal::NoList));
 }
+
+#[test]
+fn lists_are_read_into_runs() {
+    let entries = full_listing(&check(&album()).unwrap()).concat();
+    let mut file = [0; 20];
+    pack(&entries, &mut file).unwrap();
+    let noise = Entry { target: 7, right: 7, left: 7 };
+    let mut run = [noise; 2];
+    assert_eq!((read(&file, 0, &mut run), run), (Ok(2), [entries[0], entries[1]]));
+    run = [noise; 2];
+    assert_eq!((read(&file, 2, &mut run), run), (Ok(1), [entries[2], noise]));
+    for end in [3, 4, usize::MAX] {
+        assert_eq!(read(&file, end, &mut run), Ok(0));
+    }
+    assert_eq!(read(&file, 0, &mut []), Ok(0));
+    file[0] = 16;
+    assert_eq!(read(&file, 3, &mut run), Err(Refusal::BadEntry));
+    assert_eq!(read(&file[1..12], 0, &mut run), Err(Refusal::NoList));
+    assert_eq!(run, [entries[2], noise]);
+}
+
+#[test]
+fn the_text_of_the_listing_program() {
+    let text = |input: &[u8]| printed(input, |catalogue| full_listing(catalogue).concat());
+    assert_eq!(text(&album()), "tables 2 sets 10 entries 3\n1 1 2\n1 3 row\n1 6 row\n");
+    assert_eq!(text(&[0; 15]), "refused 1\n");
+    assert_eq!(text(&[0; 32_768]), "refused 2\n");
+    assert_eq!(text(&[0; 32_769]), "too long\n");
+}

@@ -1,5 +1,5 @@
 /*
- * Checks a catalogue, asks it a question, lists it in steps, packs the list behind it and reads the list back.
+ * Checks a catalogue, asks it two questions, lists it in steps, packs the list behind it and reads the list back.
  *
  *     gcc -std=c99 -Wall -Wextra -Werror -I include examples/c/example.c target/staticlib/libhost.a -o example
  *     ./example examples/album.cat
@@ -9,18 +9,17 @@
 #include "cagberin.h"
 
 #include <stdio.h>
-#include <string.h>
 
-#define FILE_BYTES 32768
-#define RUN_RECORDS 17
-#define LIST_ENTRIES 4096
-#define BUDGET 4
+#define FILE_BYTES 32768   /* bytes of a catalogue, at most */
+#define LIST_ENTRIES 4096  /* entries of its listing, at most */
+#define BUDGET 4           /* sets that a listing call passes, at most */
+#define READ_RECORDS 2     /* entries read at a time */
 
 static uint8_t file[FILE_BYTES + 4 * LIST_ENTRIES + 8];
 static uint32_t work[CAGBERIN_WORK_WORDS];
 static struct cagberin_entry list[LIST_ENTRIES];
 
-/* Prints a refusal and gives the program's status. */
+/* Prints the document's number of a refusal and gives the program's status. */
 static int refused(const char *call, int64_t reply)
 {
     printf("%s refused %d\n", call, (int)-reply);
@@ -39,12 +38,12 @@ static size_t read_file(const char *name)
     return len;
 }
 
-static void print_entry(uint32_t target, uint32_t left, uint32_t right)
+static void print_entry(struct cagberin_entry entry)
 {
-    if (right == CAGBERIN_ROW)
-        printf("%u %u row\n", (unsigned)target, (unsigned)left);
+    if (entry.right == CAGBERIN_ROW)
+        printf("%d %d row\n", entry.target, entry.left);
     else
-        printf("%u %u %u\n", (unsigned)target, (unsigned)left, (unsigned)right);
+        printf("%d %d %d\n", entry.target, entry.left, entry.right);
 }
 
 /* Asks whether left gives right in the target, and shows the rows that break it. */
@@ -52,46 +51,62 @@ static int question(size_t len, uint32_t target, uint32_t left, uint32_t right)
 {
     uint32_t first, second;
     int32_t holds = cagberin_ask(file, len, target, left, right, work, CAGBERIN_WORK_WORDS);
+    int32_t found;
     if (holds < 0)
         return refused("ask", holds);
     if (holds == 1) {
         printf("table %u: %u gives %u\n", (unsigned)target, (unsigned)left, (unsigned)right);
         return 0;
     }
-    if (cagberin_pair(file, len, target, left, right, work, CAGBERIN_WORK_WORDS, &first, &second) == 1)
+    found = cagberin_pair(file, len, target, left, right, work, CAGBERIN_WORK_WORDS, &first, &second);
+    if (found < 0)
+        return refused("pair", found);
+    if (found == 1)
         printf("table %u: %u doesn't give %u, rows %u and %u break it\n", (unsigned)target, (unsigned)left,
                (unsigned)right, (unsigned)first, (unsigned)second);
     return 0;
 }
 
-/* Lists the whole catalogue in steps. Gives the number of entries, or a refusal. */
+/* Lists the whole catalogue in steps, each behind the entries of the one before. Gives their number, or a refusal. */
 static int64_t list_in_steps(size_t len, uint32_t sets)
 {
     uint32_t place = 0;
-    int64_t count = 0;
+    size_t count = 0;
     while (place < sets) {
-        struct cagberin_entry run[RUN_RECORDS];
         uint32_t next_place, passed;
-        int64_t reply = cagberin_list(file, len, place, BUDGET, run, RUN_RECORDS, work, CAGBERIN_WORK_WORDS,
-                                      &next_place, &passed);
+        int64_t reply = cagberin_list(file, len, place, BUDGET, list + count, LIST_ENTRIES - count, work,
+                                      CAGBERIN_WORK_WORDS, &next_place, &passed);
         if (reply < 0)
             return reply;
-        if (count + reply > LIST_ENTRIES)
-            return -CAGBERIN_SHORT_SHEET;
-        memcpy(list + count, run, (size_t)reply * sizeof run[0]);
-        count += reply;
         printf("place %u: %u sets passed, %d entries\n", (unsigned)place, (unsigned)passed, (int)reply);
+        count += (size_t)reply;
         place = next_place;
     }
-    return count;
+    return (int64_t)count;
+}
+
+/* Reads the packed list that ends the file, run by run, and prints it. Gives the number of entries, or a refusal. */
+static int64_t read_in_runs(size_t len)
+{
+    size_t from = 0;
+    for (;;) {
+        struct cagberin_entry run[READ_RECORDS];
+        int64_t i, reply = cagberin_read(file, len, from, run, READ_RECORDS);
+        if (reply < 0)
+            return reply;
+        if (reply == 0)
+            return (int64_t)from;
+        for (i = 0; i < reply; i++)
+            print_entry(run[i]);
+        from += (size_t)reply;
+    }
 }
 
 int main(int argc, char **argv)
 {
-    uint32_t tables, sets, index, target, left, right;
-    uint64_t front;
+    uint32_t tables, sets;
     int64_t reply, count;
-    size_t len;
+    size_t len, front;
 
     if (argc != 2 || (len = read_file(argv[1])) == 0) {
         fprintf(stderr, "usage: example CATALOGUE\n");
@@ -118,8 +133,16 @@ int main(int argc, char **argv)
     count = cagberin_open(file, len, &front);
     if (count < 0)
         return refused("open", count);
-    printf("read back %d entries behind %u bytes\n", (int)count, (unsigned)front);
-    for (index = 0; cagberin_read(file, len, index, &target, &left, &right) == 1; index++)
-        print_entry(target, left, right);
+    printf("a list of %d entries behind %u bytes\n", (int)count, (unsigned)front);
+
+    count = read_in_runs(len);
+    if (count < 0)
+        return refused("read", count);
+    printf("read back %d entries\n", (int)count);
+
+    reply = cagberin_read(file, len - 1, 0, list, LIST_ENTRIES);
+    if (reply != CAGBERIN_NO_LIST)
+        return 1;
+    printf("without its last byte it is no list\n");
     return 0;
 }

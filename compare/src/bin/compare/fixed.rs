@@ -1,4 +1,5 @@
-//! Fixed cases before the random ones: the album throughout, and catalogues at and past the bounds.
+//! Fixed cases before the random ones: the album and its packed list throughout, and catalogues at and past the
+//! bounds.
 
 use crate::catalogues::{check, damaged};
 use crate::trial::{Outcome, Trial, MANY_WORDS};
@@ -10,6 +11,7 @@ use compare::simple::{self, MISSING, NO_PARENT, ROWS, WORK_WORDS};
 pub fn run(trial: &mut Trial) -> Outcome {
     album(trial)?;
     damaged_album(trial)?;
+    packed_album(trial)?;
     for (columns, rows) in [(16, 0), (16, 1), (16, 3), (17, 1), (0, ROWS), (0, ROWS + 1), (2, ROWS), (2, ROWS + 1)] {
         flat(trial, columns, rows)?;
     }
@@ -49,6 +51,30 @@ fn damaged_album(trial: &mut Trial) -> Outcome {
             let mut file = file.clone();
             file[at] = byte;
             damaged(trial, &file)?;
+        }
+    }
+    Ok(())
+}
+
+/// Every reading of the album's packed list: alone, behind the album, as an empty list, cut at every length,
+/// lengthened, and with each of its bytes altered.
+fn packed_album(trial: &mut Trial) -> Outcome {
+    let album = album_file();
+    let catalogue = simple::check(&album).map_err(|refusal| format!("the album is refused: {refusal:?}"))?;
+    let entries = simple::full_listing(&catalogue).concat();
+    let file = packed::written(&entries, &[]);
+    for len in 0..=file.len() {
+        packed::every_read(trial, &file[..len])?;
+    }
+    for file in [packed::written(&entries, &album), packed::written(&[], &album), packed::written(&[], &[]), album] {
+        packed::every_read(trial, &file)?;
+    }
+    packed::every_read(trial, &[&file[..], &[0]].concat())?;
+    for at in 0..file.len() {
+        for byte in [0, 1, 2, 3, 15, 16, 254, 255, file[at].wrapping_add(1), file[at].wrapping_sub(1)] {
+            let mut file = file.clone();
+            file[at] = byte;
+            packed::every_read(trial, &file)?;
         }
     }
     Ok(())

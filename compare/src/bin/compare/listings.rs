@@ -34,7 +34,7 @@ pub fn compare(
     let answer = listing.and_then(|listing| simple::list(listing, place, budget, document_run, document_work));
     let (expected, values) = match answer {
         Ok(answer) => (answer.entries as i64, [answer.next_place, answer.passed, before[2]]),
-        Err(refusal) => (negative(refusal) as i64, before),
+        Err(refusal) => (negative(refusal), before),
     };
     let what = || format!("list {call:?}: reply, next place and passed");
     same(what, (reply, numbers.values()), (expected, values))?;

@@ -6,6 +6,9 @@ use compare::lent::{Numbers, Placed};
 use compare::random::{self, Random};
 use compare::simple::{self, Entry};
 
+/// How many readings from any index into any run are made of each file.
+const READS: usize = 4;
+
 /// Random lists and their damaged forms; `front` are bytes that may stand in front.
 pub fn run(trial: &mut Trial, front: &[u8]) -> Outcome {
     let mut entries: Vec<Entry> = (0..trial.random.below(12)).map(|_| random::entry(&mut trial.random)).collect();
@@ -35,7 +38,7 @@ pub fn listing(trial: &mut Trial, front: &[u8], entries: &[Entry]) -> Outcome {
 }
 
 /// The bytes of a list behind a front, without any check.
-fn written(entries: &[Entry], front: &[u8]) -> Vec<u8> {
+pub fn written(entries: &[Entry], front: &[u8]) -> Vec<u8> {
     let mut file = front.to_vec();
     for entry in entries {
         file.extend([entry.target, entry.right, entry.left as u8, (entry.left >> 8) as u8]);
@@ -116,46 +119,104 @@ fn pack(trial: &mut Trial, entries: &[Entry]) -> Outcome {
     Ok(())
 }
 
+/// Opens a file, then reads from it, whether it was opened or refused.
 fn open_and_read(trial: &mut Trial, file: &[u8]) -> Outcome {
+    let placed = placed(trial, file);
+    let entries = open(trial, &placed)?;
+    for _ in 0..READS {
+        let from = any_index(&mut trial.random, entries);
+        let records = any_records(&mut trial.random, entries.saturating_sub(from)).min(trial.run.most());
+        read(trial, &placed, from, records)?;
+    }
+    whole(trial, &placed)?;
+    expect(placed.file() == file, || "open and read".into(), "the file was altered")
+}
+
+/// Reads from every index to past the last, with every run to longer than the list.
+pub fn every_read(trial: &mut Trial, file: &[u8]) -> Outcome {
+    let placed = placed(trial, file);
+    let entries = open(trial, &placed)?;
+    for from in (0..entries + 3).chain([1 << 32, usize::MAX - 1, usize::MAX]) {
+        for records in (0..entries + 3).chain([entries + 100]) {
+            read(trial, &placed, from, records)?;
+        }
+    }
+    whole(trial, &placed)?;
+    expect(placed.file() == file, || "open and read".into(), "the file was altered")
+}
+
+fn placed(trial: &mut Trial, file: &[u8]) -> Placed {
     trial.file = file.to_vec();
-    let placed = Placed::new(file, &mut trial.random);
-    let mut numbers: Numbers<u64> = Numbers::new(&mut trial.random);
+    Placed::new(file, &mut trial.random)
+}
+
+/// The number of entries, or of a refused file 3, as if it had some.
+fn open(trial: &mut Trial, placed: &Placed) -> Result<usize, String> {
+    let mut numbers: Numbers<usize> = Numbers::new(&mut trial.random);
     let [front, _, _] = numbers.lend();
     let reply = ffi::open(placed.file(), front);
-    let answer = simple::open(file);
     let call = || "open: reply and bytes in front".to_string();
-    match answer {
+    match simple::open(placed.file()) {
         Err(refusal) => {
             same(call, reply, negative(refusal))?;
             expect(numbers.untouched_but_first(0), call, "a refusal altered memory")?;
             trial.seen.refusal(refusal);
+            Ok(3)
         }
         Ok(list) => {
-            same(call, (reply, numbers.values()[0]), (list.entries.len() as i64, list.front as u64))?;
+            same(call, (reply, numbers.values()[0]), (list.entries.len() as i64, list.front))?;
             expect(numbers.untouched_but_first(1), call, "memory beside the number was altered")?;
             trial.seen.answer("open");
-            let count = list.entries.len() as u32;
-            let stride = 1 + count / 50;
-            for index in (0..count).step_by(stride as usize).chain([count, count + 1, 1 << 30, u32::MAX]) {
-                read(trial, &placed, index, list.read(index))?;
-            }
+            Ok(list.entries.len())
         }
     }
-    expect(placed.file() == file, call, "the file was altered")
 }
 
-fn read(trial: &mut Trial, placed: &Placed, index: u32, entry: Option<Entry>) -> Outcome {
-    let mut numbers: Numbers<u32> = Numbers::new(&mut trial.random);
-    let before = numbers.values();
-    let [target, left, right] = numbers.lend();
-    let reply = ffi::read(placed.file(), index, target, left, right);
-    let expected = match entry {
-        Some(entry) => (1, [entry.target as u32, entry.left as u32, entry.right as u32]),
-        None => (0, before),
+/// The first index, one inside, the last, the end, and past it.
+fn any_index(random: &mut Random, entries: usize) -> usize {
+    let inside = random.below(entries + 1);
+    let last = entries.saturating_sub(1);
+    random.pick(&[0, 0, inside, inside, last, entries, entries + 1, 1 << 30, 1 << 32, 1 << 62, usize::MAX])
+}
+
+/// A run of no record, one too short, one that just suffices for what is left, or one that is longer.
+fn any_records(random: &mut Random, left: usize) -> usize {
+    let short = random.below(left + 1);
+    random.pick(&[0, 1, short, short, left.saturating_sub(1), left, left, left + 1, left + 9])
+}
+
+/// One reading from an index on, by the library and by the document: reply, run and what is around it.
+fn read(trial: &mut Trial, placed: &Placed, from: usize, records: usize) -> Result<usize, String> {
+    let (library, document) = trial.run.lend(records, &mut trial.random);
+    let reply = ffi::read(placed.file(), from, library);
+    let answer = simple::read(placed.file(), from, document);
+    let expected = match answer {
+        Ok(count) => count as i64,
+        Err(refusal) => negative(refusal),
     };
-    let call = || format!("read {index}: reply, target, left and right");
-    same(call, (reply, numbers.values()), expected)?;
-    expect(numbers.untouched_but_first(3), call, "memory beside the numbers was altered")?;
-    trial.seen.answer(if entry.is_some() { "read" } else { "read, end" });
-    Ok(())
+    let call = || format!("read from {from} into {records} records");
+    same(call, reply, expected)?;
+    expect(trial.run.alike(), call, "the run of records or its guards were left otherwise than stated")?;
+    match answer {
+        Ok(0) if records == 0 => trial.seen.answer("read, no record lent"),
+        Ok(0) => trial.seen.answer("read, end"),
+        Ok(_) => trial.seen.answer("read"),
+        Err(refusal) => trial.seen.refusal(refusal),
+    }
+    Ok(answer.unwrap_or(0))
+}
+
+/// Reads the whole list in runs of one length, each from the entry behind the run before, to the end.
+fn whole(trial: &mut Trial, placed: &Placed) -> Outcome {
+    let Ok(list) = simple::open(placed.file()) else { return Ok(()) };
+    let records = 1 + list.entries.len() / trial.random.from_to(1, 5);
+    let mut joined: Vec<Entry> = Vec::new();
+    loop {
+        let count = read(trial, placed, joined.len(), records.min(trial.run.most()))?;
+        if count == 0 {
+            break;
+        }
+        joined.extend(&trial.run.left()[..count]);
+    }
+    same(|| format!("a list read in runs of {records}"), joined, list.entries)
 }

@@ -88,8 +88,19 @@ pub struct Seen {
 }
 
 /// The answers that a run of some length must have met.
-const ANSWERS: [&str; 10] =
-    ["check, sound", "ask, breaks", "ask, holds", "pair", "pair, none", "list", "pack", "open", "read", "read, end"];
+const ANSWERS: [&str; 11] = [
+    "check, sound",
+    "ask, breaks",
+    "ask, holds",
+    "pair",
+    "pair, none",
+    "list",
+    "pack",
+    "open",
+    "read",
+    "read, end",
+    "read, no record lent",
+];
 
 impl Seen {
     pub fn refusal(&mut self, refusal: Refusal) {

@@ -1,0 +1,91 @@
+//! What the C header says besides each call's reply: the stack that a call needs, and that threads may share a
+//! catalogue and a packed list.
+
+use compare::random::{Draft, DraftTable, Random};
+use compare::simple::{self, Entry, COLUMNS, NO_PARENT, ROW, TABLES, WORK_WORDS};
+use compare::{ffi, table};
+use std::thread::{scope, Builder};
+
+/// The stack of `cagberin_list`, and of each other call, as the header states it. A thread's own needs come out of
+/// the same.
+const LIST_STACK: usize = 655_360;
+const OTHER_STACK: usize = 16_384;
+
+/// A line of 16 tables, each with one column, and enough rows below that a listing takes all its ways.
+fn line() -> Vec<u8> {
+    let mut random = Random::new(6);
+    let mut draft = Draft::default();
+    for i in 0..TABLES {
+        let above = if i == 0 { 0 } else { draft.tables[i - 1].rows.len() };
+        let mut row = || {
+            let parent = if i == 0 { NO_PARENT } else { random.below(above) };
+            (parent, vec![random.below(2 + i) as u32])
+        };
+        let rows = (0..8 + 12 * i).map(|_| row()).collect();
+        draft.tables.push(DraftTable { columns: 1, parent: if i == 0 { NO_PARENT } else { i - 1 }, rows });
+    }
+    draft.file()
+}
+
+/// One table of 16 columns.
+fn flat() -> Vec<u8> {
+    let mut random = Random::new(7);
+    let mut row = || (NO_PARENT, (0..COLUMNS).map(|_| random.below(4) as u32).collect());
+    let rows = (0..300).map(|_| row()).collect();
+    Draft { tables: vec![DraftTable { columns: COLUMNS, parent: NO_PARENT, rows }] }.file()
+}
+
+/// Whether a listing by calls of this budget, with so many words, gives these entries.
+fn lists(file: &[u8], budget: u32, words: usize, expected: &[Entry]) -> bool {
+    let mut work = vec![7; words];
+    let mut run = vec![Entry::default(); expected.len()];
+    let (mut place, mut passed, mut count) = (0, 1, 0);
+    while passed > 0 {
+        let reply = ffi::list(file, place, budget, &mut run[count..], &mut work, &mut place, &mut passed);
+        count += usize::try_from(reply).unwrap();
+    }
+    count == expected.len() && run == expected
+}
+
+#[test]
+fn listings_of_a_shared_catalogue_in_threads_with_the_stated_stack() {
+    for file in [line(), flat()] {
+        let entries = table::listing(&simple::check(&file).unwrap());
+        scope(|threads| {
+            for (budget, words) in [(u32::MAX, WORK_WORDS), (u32::MAX, 65_536), (9_999, WORK_WORDS), (9_999, 65_536)] {
+                let thread = Builder::new().stack_size(LIST_STACK);
+                let (file, entries) = (&file, &entries);
+                thread.spawn_scoped(threads, move || assert!(lists(file, budget, words, entries))).unwrap();
+            }
+        });
+    }
+}
+
+#[test]
+fn other_calls_on_shared_files_in_threads_with_the_stated_stack() {
+    let file = line();
+    let target = TABLES as u32 - 1;
+    let entries = table::listing(&simple::check(&file).unwrap());
+    let mut list = vec![0; 4 * entries.len() + 8];
+    simple::pack(&entries, &mut list).unwrap();
+    let (file, list, entries) = (&file, &list, &entries);
+    let calls = move || {
+        let mut work = vec![7; WORK_WORDS];
+        assert_eq!(ffi::check(file, &mut 0, &mut 0), 0);
+        let holds = ffi::ask(file, target, 0xFFFF, ROW, &mut work);
+        let pair = ffi::pair(file, target, 0xFFFF, ROW, &mut work, &mut 0, &mut 0);
+        assert_eq!(holds + pair, 1);
+        let mut output = vec![0; list.len()];
+        assert_eq!(ffi::pack(entries, &mut output), list.len() as i64);
+        assert!(output == *list);
+        assert_eq!(ffi::open(list, &mut 0), entries.len() as i64);
+        let mut run = vec![Entry::default(); entries.len()];
+        assert_eq!(ffi::read(list, 0, &mut run), entries.len() as i64);
+        assert!(run == *entries);
+    };
+    scope(|threads| {
+        for _ in 0..4 {
+            Builder::new().stack_size(OTHER_STACK).spawn_scoped(threads, calls).unwrap();
+        }
+    });
+}
