@@ -68,9 +68,9 @@ extern "C" {
  * The numbers that calls return. The document's number is the same without the sign; its word and its condition
  * stand beside each.
  *
- * Where there are several grounds, the first in this order is returned: 1 and 2; then table by table its offset and 6
- * bytes (3), 4, 5, 6, its rows' extent (3), each row (7); after the last table, left bytes (3); then 8 to 16 by
- * number. A list is checked for 14 first, then entry by entry for 15.
+ * Where there are several grounds, the first in this order is returned: -1 and -2; then table by table its offset and
+ * 6 bytes (-3), -4, -5, -6, its rows' extent (-3), each row (-7); after the last table, left bytes (-3); then -8 to
+ * -16 as they stand here. A list is checked for -14 first, then entry by entry for -15.
  */
 enum cagberin_refusal {
     CAGBERIN_TORN = -1,            /* torn: file under 16 bytes */
@@ -138,7 +138,7 @@ struct cagberin_entry {
  * Checks a catalogue.
  *
  * Returns 0 if it is sound, with the number of tables in *tables and of sets over all targets in *sets.
- * Refusals: 1 to 7; *tables and *sets are unaltered.
+ * Refusals: -1 to -7; *tables and *sets are unaltered.
  */
 int32_t cagberin_check(const uint8_t *cat, size_t cat_len, uint32_t *tables, uint32_t *sets);
 
@@ -146,7 +146,7 @@ int32_t cagberin_check(const uint8_t *cat, size_t cat_len, uint32_t *tables, uin
  * Asks whether a dependency holds.
  *
  * Returns 1 if it holds and 0 if two rows break it; every work word is then 0.
- * Refusals: 1 to 11; the work words are unaltered.
+ * Refusals: -1 to -11; the work words are unaltered.
  *
  * Compare with 1: a refusal is no yes, though a C condition takes it for one. cagberin_pair has its 1 and 0 the other
  * way round.
@@ -160,7 +160,7 @@ int32_t cagberin_ask(const uint8_t *cat, size_t cat_len, uint32_t target, uint32
  * Returns 1 if there is one, so the dependency doesn't hold, with such rows in *first and *second, the lower row
  * first; any such pair may come. Returns 0 if there is none, so the dependency holds; *first and *second are then
  * unaltered. After 1 and 0 every work word is 0.
- * Refusals: 1 to 11; *first, *second and the work words are unaltered.
+ * Refusals: -1 to -11; *first, *second and the work words are unaltered.
  *
  * Compare with 1: a refusal is no pair, though a C condition takes it for one. cagberin_ask has its 1 and 0 the other
  * way round.
@@ -174,14 +174,14 @@ int32_t cagberin_pair(const uint8_t *cat, size_t cat_len, uint32_t target, uint3
  *
  * Returns the number of entries of these sets. They stand at the start of the run in listing order; the other records
  * are unaltered. *next_place is the place reached, *passed the number of sets passed, and every work word is 0.
- * Refusals: 1 to 7, 11, 12, 13; the run, *next_place and *passed are unaltered, and the work words too, save that
- * after 13 every one is 0.
+ * Refusals: -1 to -7, -11, -12, -13; the run, *next_place and *passed are unaltered, and the work words too, save
+ * that after -13 every one is 0.
  *
  * A whole listing begins at place 0, hands each call the place that the one before reached, and is whole when that is
  * the number of sets: the entries of all calls, one after the other, are then every minimal dependency and key, once,
  * in listing order. Budgets, runs and work words may differ at each call. A return of 0 is not the end: sets may
  * have no entries. Budget 0 passes nothing, so a loop with it never ends. A run of CAGBERIN_SET_ENTRIES records or
- * more never gets 13.
+ * more never gets -13.
  *
  * With 2^n work words, CAGBERIN_MANY_WORDS for 16 columns, a target of n visible columns was mostly listed faster
  * where measured.
@@ -194,7 +194,7 @@ int64_t cagberin_list(const uint8_t *cat, size_t cat_len, uint32_t place, uint32
  * Packs k entries, which must be in listing order, none twice.
  *
  * Returns the number of bytes written from the start of out, 4k + 8; the other bytes are unaltered.
- * Refusals: 15, then 16; out is unaltered.
+ * Refusals: -15, then -16; out is unaltered.
  */
 int64_t cagberin_pack(const struct cagberin_entry *entries, size_t k, uint8_t *out, size_t out_len);
 
@@ -202,7 +202,7 @@ int64_t cagberin_pack(const struct cagberin_entry *entries, size_t k, uint8_t *o
  * Opens the packed list that ends a file.
  *
  * Returns the number of its entries, with the number of bytes in front of the list in *front.
- * Refusals: 14, 15; *front is unaltered.
+ * Refusals: -14, -15; *front is unaltered.
  */
 int64_t cagberin_open(const uint8_t *file, size_t len, size_t *front);
 
@@ -212,7 +212,7 @@ int64_t cagberin_open(const uint8_t *file, size_t len, size_t *front);
  *
  * Returns how many were read: 0 if from is at or past the number of entries, or if the run has no records. They stand
  * at the start of the run; the other records are unaltered.
- * Refusals: 14, 15, whatever was called before; the run is unaltered.
+ * Refusals: -14, -15, whatever was called before; the run is unaltered.
  *
  * Every call checks the whole list first, so one call with a large run reads a list with less work than many with
  * small ones.
