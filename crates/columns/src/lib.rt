@@ -80,7 +80,8 @@ impl ColumnSet {
     pub fn size(self) -> u32
         ensures { λ r. ⌜ r ≡ memberCount (self .bits) ⌝ }
     {
-        let x = members(self.bits);
+        let bits = self.bits;
+        let x = members(bits);
         u32::count_ones(x)
     }
 
@@ -88,7 +89,8 @@ impl ColumnSet {
     pub fn without(self, k: u32) -> ColumnSet
         ensures { λ r. ⌜ r .bits ≡ withoutOf (membersOf (self .bits)) k ⌝ }
     {
-        let x = members(self.bits);
+        let bits = self.bits;
+        let x = members(bits);
         if !self.member(k) {
             return ColumnSet { bits: x };
         }
@@ -99,8 +101,10 @@ impl ColumnSet {
     pub fn within(self, other: ColumnSet) -> bool
         ensures { λ r. ⌜ r ≡ subsetOf (self .bits) (other .bits) ⌝ }
     {
-        let x = members(self.bits);
-        let y = members(other.bits);
+        let a = self.bits;
+        let b = other.bits;
+        let x = members(a);
+        let y = members(b);
         x & y == x
     }
 
@@ -108,8 +112,10 @@ impl ColumnSet {
     pub fn precedes(self, other: ColumnSet) -> bool
         ensures { λ r. ⌜ r ≡ precedesOf (membersOf (self .bits)) (membersOf (other .bits)) ⌝ }
     {
-        let x = members(self.bits);
-        let y = members(other.bits);
+        let a = self.bits;
+        let b = other.bits;
+        let x = members(a);
+        let y = members(b);
         let s = u32::count_ones(x);
         let t = u32::count_ones(y);
         if s < t {
@@ -130,7 +136,8 @@ impl ColumnSet {
         if COLUMN_BOUND < n {
             return SetOrNone::Nothing;
         }
-        let x = members(self.bits);
+        let bits = self.bits;
+        let x = members(bits);
         let end = power(n);
         if end <= x {
             return SetOrNone::Nothing;

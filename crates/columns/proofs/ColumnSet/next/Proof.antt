@@ -102,8 +102,8 @@ power-requires-3 c κs = let d = c .before .before .before in omega (arith, size
 sub-low : tie.Need-sub-low
 sub-low c = omega (arith, power-pos _ _ (c .power3 .ensures))
 
-add-t12 : tie.Need-add-t12
-add-t12 c =
+add-t13 : tie.Need-add-t13
+add-t13 c =
     let d = c .before .before .before .before in
     omega (arith, moved (c .before .before) .fits _ (inside (c .before)), c .power3 .ensures, small d, pow-pos (run c))
 
@@ -121,8 +121,8 @@ add-power c = search needs
 power-requires-4 : tie.Need-power-requires-4
 power-requires-4 c κs = search needs
 
-sub-t18 : tie.Need-sub-t18
-sub-t18 c = power-pos _ _ (c .power4 .ensures)
+sub-t19 : tie.Need-sub-t19
+sub-t19 c = power-pos _ _ (c .power4 .ensures)
 
 returns-4 : tie.Need-returns-4
 returns-4 c =
@@ -148,10 +148,10 @@ next-spec =
     sub-power
     power-requires-3
     sub-low
-    add-t12
+    add-t13
     returns-3
     add-power
     power-requires-4
-    sub-t18
+    sub-t19
     returns-4
     returns-5)

@@ -29,8 +29,8 @@ returns c =
 power-requires : tie.Need-power-requires
 power-requires c κs = omega (arith, member-bit _ _ (is-member c) .0)
 
-sub-t7 : tie.Need-sub-t7
-sub-t7 c =
+sub-t8 : tie.Need-sub-t8
+sub-t8 c =
     omega (
       arith,
       bit-power-le _ _ (bit-of-member _ _ (is-member (c .before))),
@@ -45,4 +45,4 @@ returns-2 c =
 
 pub without-spec : {M : Type 1} → statement M
 without-spec =
-    tie.close (tie.spec members-requires member-requires returns power-requires sub-t7 returns-2)
+    tie.close (tie.spec members-requires member-requires returns power-requires sub-t8 returns-2)
