@@ -112,9 +112,9 @@ enum cagberin_refusal {
  * A dependency holds if all pairs of rows of the target that agree on the left agree on the right. It is minimal if
  * it holds, the right isn't in the left, and no left with a column less holds.
  *
- * An entry is one minimal dependency or key. Its fields stand in the order target, right, left, as in a packed list;
- * the arguments of the calls come in the order target, left, right. The record has 4 bytes, is aligned to 2 and has
- * no padding.
+ * An entry names a dependency; those of a listing are the minimal ones. Its fields stand in the order target, right,
+ * left, as in a packed list; the arguments of the calls come in the order target, left, right. The record has 4 bytes,
+ * is aligned to 2 and has no padding.
  */
 struct cagberin_entry {
     uint8_t target;
