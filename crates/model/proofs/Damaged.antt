@@ -138,21 +138,21 @@ pub damages : Damages
 unfolding computes
 damages =
     record {
-      torn = refl;
-      noTail = refl;
-      noTailMany = record { code = refl; alone = refl };
-      noTailLength = record { code = refl; alone = refl };
-      misplacedOffset = record { code = refl; alone = refl };
-      misplacedHead = record { code = refl; alone = refl };
-      misplacedRows = record { code = refl; alone = refl };
-      misplacedLeft = record { code = refl; alone = refl };
-      oversizeColumns = record { code = refl; alone = refl };
-      oversizeRows = many-rows;
-      noStemRoot = record { code = refl; alone = refl };
-      noStem = record { code = refl; alone = refl };
-      wide = record { code = refl; alone = refl };
-      strayRoot = record { code = refl; alone = refl };
-      stray = record { code = refl; alone = refl };
+      shortFile = refl;
+      tablesNone = refl;
+      tablesMany = record { code = refl; alone = refl };
+      trailerLong = record { code = refl; alone = refl };
+      extentOffset = record { code = refl; alone = refl };
+      extentHead = record { code = refl; alone = refl };
+      extentRows = record { code = refl; alone = refl };
+      extentLeft = record { code = refl; alone = refl };
+      columnsMany = record { code = refl; alone = refl };
+      rowsMany = many-rows;
+      parentOfRoot = record { code = refl; alone = refl };
+      parentItself = record { code = refl; alone = refl };
+      visibleMany = record { code = refl; alone = refl };
+      parentOfRootRow = record { code = refl; alone = refl };
+      parentRowUnknown = record { code = refl; alone = refl };
     }
 
 pub at-the-bounds : AtTheBounds

@@ -17,9 +17,9 @@ refused-questions =
       aboveRow = record { code = refl; alone = refl };
       firstOwn = refl;
       lastOwn = refl;
-      smallBench = record { code = refl; alone = refl };
-      noBench = record { code = refl; alone = refl };
-      bench = refl;
+      fewWords = record { code = refl; alone = refl };
+      noWords = record { code = refl; alone = refl };
+      enoughWords = refl;
       first1 = refl;
       first2 = refl;
       first3 = refl;
@@ -36,13 +36,13 @@ pub refused-listings : RefusedListings
 unfolding computes
 refused-listings =
     record {
-      smallBench = record { code = refl; alone = refl };
-      bench = refl;
+      fewWords = record { code = refl; alone = refl };
+      enoughWords = refl;
       pastTheEnd = record { code = refl; alone = refl };
       pastTheEndAtBudget0 = record { code = refl; alone = refl };
       lastPlace = refl;
-      trayFull = record { code = refl; alone = refl };
-      trayFits = refl;
+      shortRun = record { code = refl; alone = refl };
+      runFits = refl;
       budget0 = refl;
       noEntryNext = refl;
       first1 = refl;
@@ -93,10 +93,10 @@ refused-lists =
       earlyThird = record { code = refl; alone = refl };
       readTarget16 = record { code = refl; alone = refl };
       readEqualNeighbours = record { code = refl; alone = refl };
-      shortSheet = record { code = refl; alone = refl };
-      sheet = refl;
-      shortSheetOfOne = record { code = refl; alone = refl };
-      sheetOfOne = refl;
+      shortOutput = record { code = refl; alone = refl };
+      enoughOutput = refl;
+      shortOutputOfOne = record { code = refl; alone = refl };
+      enoughOutputOfOne = refl;
       fourteenBefore15 = refl;
       fifteenBefore16 = refl;
     }

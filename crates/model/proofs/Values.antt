@@ -38,22 +38,22 @@ pub refusal-numbers : RefusalNumbers
 unfolding computes
 refusal-numbers =
     record {
-      torn = refl;
-      noTail = refl;
-      misplaced = refl;
-      oversize = refl;
-      noStem = refl;
-      tooWide = refl;
-      strayRow = refl;
+      fileTooShort = refl;
+      badTrailer = refl;
+      badExtent = refl;
+      tableTooLarge = refl;
+      badParentTable = refl;
+      tooManyVisible = refl;
+      badParentRow = refl;
       unknownTable = refl;
       unknownColumn = refl;
       unknownRight = refl;
-      smallBench = refl;
+      tooFewWords = refl;
       pastTheEnd = refl;
-      trayFull = refl;
+      runTooShort = refl;
       noList = refl;
       badEntry = refl;
-      shortSheet = refl;
+      outputTooShort = refl;
     }
 
 pub answer-values : AnswerValues

@@ -96,30 +96,30 @@ tooWide = headOf 16 noParent 0 ++ headOf 1 0 0 ++ trailerOf (0 ∷ 6 ∷ []) 2 1
 unfoldable pub rootedRow : List ℕ
 rootedRow = headOf 0 noParent 1 ++ rowOf 0 [] ++ trailerOf (0 ∷ []) 1 8
 
-unfoldable pub strayRow : List ℕ
-strayRow = headOf 0 noParent 0 ++ headOf 0 0 1 ++ rowOf 0 [] ++ trailerOf (0 ∷ 6 ∷ []) 2 14
+unfoldable pub unknownParentRow : List ℕ
+unknownParentRow = headOf 0 noParent 0 ++ headOf 0 0 1 ++ rowOf 0 [] ++ trailerOf (0 ∷ 6 ∷ []) 2 14
 
 pub record Damages : Type 0 where
   -- no file under 16 bytes has a sound trailer and a whole table before it, so it has other faults too
-  pub torn : checkCode cut ≡ 1
+  pub shortFile : checkCode cut ≡ 1
   -- with no table, the end of the last table is no place in the file, so 'left bytes' fails too
-  pub noTail : checkCode noTable ≡ 2
-  pub noTailMany : Only manyTables 2
-  pub noTailLength : Only longTrailer 2
-  pub misplacedOffset : Only lateTable 3
+  pub tablesNone : checkCode noTable ≡ 2
+  pub tablesMany : Only manyTables 2
+  pub trailerLong : Only longTrailer 2
+  pub extentOffset : Only lateTable 3
   -- where the 6 bytes pass the trailer, so do the rows, and the end of the last table is not the trailer's first byte: all three are 3
-  pub misplacedHead : Refused shortHead 3 (3 ∷ 3 ∷ 3 ∷ [])
+  pub extentHead : Refused shortHead 3 (3 ∷ 3 ∷ 3 ∷ [])
   -- and where the rows pass it, the end of the last table is not the trailer's first byte
-  pub misplacedRows : Refused shortRow 3 (3 ∷ 3 ∷ [])
-  pub misplacedLeft : Only leftByte 3
+  pub extentRows : Refused shortRow 3 (3 ∷ 3 ∷ [])
+  pub extentLeft : Only leftByte 3
   -- a table's own columns are visible, so 17 of them are too many for 6 as well
-  pub oversizeColumns : Refused manyColumns 4 (4 ∷ 6 ∷ [])
-  pub oversizeRows : Only manyRows 4
-  pub noStemRoot : Only rootedRoot 5
-  pub noStem : Only ownParent 5
-  pub wide : Only tooWide 6
-  pub strayRoot : Only rootedRow 7
-  pub stray : Only strayRow 7
+  pub columnsMany : Refused manyColumns 4 (4 ∷ 6 ∷ [])
+  pub rowsMany : Only manyRows 4
+  pub parentOfRoot : Only rootedRoot 5
+  pub parentItself : Only ownParent 5
+  pub visibleMany : Only tooWide 6
+  pub parentOfRootRow : Only rootedRow 7
+  pub parentRowUnknown : Only unknownParentRow 7
 
 -- files at the bounds: 16 bytes; 16 columns; 4,096 rows; 15 columns and one more in a table below. 16 tables: `deepest` of specs/Line.antt
 unfoldable pub smallest : List ℕ

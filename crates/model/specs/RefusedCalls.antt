@@ -16,7 +16,7 @@ use Rattle.model.specs.List.{listCode}
 use Rattle.model.specs.Packed as list
 use Rattle.model.specs.Packed.{entriesIn, entriesCode, outputCode, packCode, packed, readCode}
 use Rattle.model.specs.Album.{album}
-use Rattle.model.specs.Damaged.{notZero, cut, noTable, lateTable, manyColumns, ownParent, tooWide, strayRow}
+use Rattle.model.specs.Damaged.{notZero, cut, noTable, lateTable, manyColumns, ownParent, tooWide, unknownParentRow}
 use Rattle.model.specs.declared.Entry.{Entry}
 
 -- a call with code c is refused with the number, which is the only one among the grounds against it
@@ -61,9 +61,9 @@ pub record RefusedQuestions : Type 0 where
   pub firstOwn : questionCode album 1 0 1 16384 ≡ 0
   pub lastOwn : questionCode album 1 0 2 16384 ≡ 0
   -- 11: one word too few, and no word
-  pub smallBench : AskOnly album 1 1 2 16383 11
-  pub noBench : AskOnly album 1 1 2 0 11
-  pub bench : questionCode album 1 1 2 16384 ≡ 0
+  pub fewWords : AskOnly album 1 1 2 16383 11
+  pub noWords : AskOnly album 1 1 2 0 11
+  pub enoughWords : questionCode album 1 1 2 16384 ≡ 0
   -- by number: 1 to 7 before 8 to 11, 8 before 9 to 11, 9 before 10 and 11, 10 before 11
   pub first1 : questionCode cut 99 65535 99 0 ≡ 1
   pub first2 : questionCode noTable 99 65535 99 0 ≡ 2
@@ -71,7 +71,7 @@ pub record RefusedQuestions : Type 0 where
   pub first4 : questionCode manyColumns 99 65535 99 0 ≡ 4
   pub first5 : questionCode ownParent 99 65535 99 0 ≡ 5
   pub first6 : questionCode tooWide 99 65535 99 0 ≡ 6
-  pub first7 : questionCode strayRow 99 65535 99 0 ≡ 7
+  pub first7 : questionCode unknownParentRow 99 65535 99 0 ≡ 7
   pub first8 : questionCode album 2 65535 99 0 ≡ 8
   pub first9 : questionCode album 1 65535 99 0 ≡ 9
   pub first10 : questionCode album 1 7 99 0 ≡ 10
@@ -79,15 +79,15 @@ pub record RefusedQuestions : Type 0 where
 -- the listing call: place, budget, records in the run and work words
 pub record RefusedListings : Type 0 where
   -- 11: one word too few
-  pub smallBench : ListOnly album 0 1 8 16383 11
-  pub bench : listCode album 0 1 8 16384 ≡ 0
+  pub fewWords : ListOnly album 0 1 8 16383 11
+  pub enoughWords : listCode album 0 1 8 16384 ≡ 0
   -- 12: the last place is 10
   pub pastTheEnd : ListOnly album 11 1 8 16384 12
   pub pastTheEndAtBudget0 : ListOnly album 11 0 0 16384 12
   pub lastPlace : listCode album 10 1 0 16384 ≡ 0
   -- 13: there is budget, the next set has one entry, and the run has no record; at place 2 the next set has no entry
-  pub trayFull : ListOnly album 3 1 0 16384 13
-  pub trayFits : listCode album 3 1 1 16384 ≡ 0
+  pub shortRun : ListOnly album 3 1 0 16384 13
+  pub runFits : listCode album 3 1 1 16384 ≡ 0
   pub budget0 : listCode album 3 0 0 16384 ≡ 0
   pub noEntryNext : listCode album 2 8 0 16384 ≡ 0
   -- by number: 1 to 7 before 11 and 12, 11 before 12 and 13
@@ -97,7 +97,7 @@ pub record RefusedListings : Type 0 where
   pub first4 : listCode manyColumns 99 1 0 0 ≡ 4
   pub first5 : listCode ownParent 99 1 0 0 ≡ 5
   pub first6 : listCode tooWide 99 1 0 0 ≡ 6
-  pub first7 : listCode strayRow 99 1 0 0 ≡ 7
+  pub first7 : listCode unknownParentRow 99 1 0 0 ≡ 7
   pub elevenBefore12 : listCode album 11 1 0 16383 ≡ 11
   pub elevenBefore13 : listCode album 3 1 0 16383 ≡ 11
 
@@ -155,10 +155,10 @@ pub record RefusedLists : Type 0 where
   pub readTarget16 : ReadOnly (packed (entry 16 0 row ∷ [])) 15
   pub readEqualNeighbours : ReadOnly (packed (entry 1 1 2 ∷ entry 1 1 2 ∷ [])) 15
   -- 16: 4k + 7 bytes of output, for no entry and for one
-  pub shortSheet : PackOnly [] 7 16
-  pub sheet : packCode [] 8 ≡ 0
-  pub shortSheetOfOne : PackOnly (entry 1 1 2 ∷ []) 11 16
-  pub sheetOfOne : packCode (entry 1 1 2 ∷ []) 12 ≡ 0
+  pub shortOutput : PackOnly [] 7 16
+  pub enoughOutput : packCode [] 8 ≡ 0
+  pub shortOutputOfOne : PackOnly (entry 1 1 2 ∷ []) 11 16
+  pub enoughOutputOfOne : packCode (entry 1 1 2 ∷ []) 12 ≡ 0
   -- by number: 14 before 15, 15 before 16
   pub fourteenBefore15 : readCode (packed (entry 16 0 row ∷ []) ++ bytes4 1 ++ bytes4 13) ≡ 14
   pub fifteenBefore16 : packCode (entry 16 0 row ∷ []) 0 ≡ 15

@@ -51,22 +51,22 @@ pub record ByteOrder : Type 0 where
 
 -- "Feeder desk codes"
 pub record RefusalNumbers : Type 0 where
-  pub torn : number FileTooShort ≡ 1
-  pub noTail : number BadTrailer ≡ 2
-  pub misplaced : number BadExtent ≡ 3
-  pub oversize : number TableTooLarge ≡ 4
-  pub noStem : number BadParentTable ≡ 5
-  pub tooWide : number TooManyVisible ≡ 6
-  pub strayRow : number BadParentRow ≡ 7
+  pub fileTooShort : number FileTooShort ≡ 1
+  pub badTrailer : number BadTrailer ≡ 2
+  pub badExtent : number BadExtent ≡ 3
+  pub tableTooLarge : number TableTooLarge ≡ 4
+  pub badParentTable : number BadParentTable ≡ 5
+  pub tooManyVisible : number TooManyVisible ≡ 6
+  pub badParentRow : number BadParentRow ≡ 7
   pub unknownTable : number UnknownTable ≡ 8
   pub unknownColumn : number UnknownColumn ≡ 9
   pub unknownRight : number UnknownRight ≡ 10
-  pub smallBench : number TooFewWords ≡ 11
+  pub tooFewWords : number TooFewWords ≡ 11
   pub pastTheEnd : number PastTheEnd ≡ 12
-  pub trayFull : number RunTooShort ≡ 13
+  pub runTooShort : number RunTooShort ≡ 13
   pub noList : number NoList ≡ 14
   pub badEntry : number BadEntry ≡ 15
-  pub shortSheet : number OutputTooShort ≡ 16
+  pub outputTooShort : number OutputTooShort ≡ 16
 
 -- a refusal returns its number alone, an answer its values
 pub record AnswerValues : Type 0 where
