@@ -28,6 +28,7 @@ use Rattle.model.specs.Cases.{Cases}
 use Rattle.model.specs.declared.Entry.{Entry}
 use Rattle.model.proofs.Grounds.{orElse-none}
 use Rattle.model.proofs.Computes.{computes}
+use Rattle.model.proofs.Text.{album-text}
 use Rattle.model.proofs.View.{holds-true, holds-false, agreeOn-true}
 
 -- the tests on these catalogues
@@ -193,6 +194,7 @@ cases =
       albumLength = album-length;
       albumCheck = album-check;
       albumListing = album-listing;
+      albumText = album-text;
       albumAccepted = album-accepted;
       noRowsAccepted = refl;
       oneMissingAccepted = refl;

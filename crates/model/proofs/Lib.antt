@@ -13,6 +13,8 @@ pub mod Demand
 pub mod Obedient
 pub mod Listing
 pub mod Complete
+pub mod Short
 pub mod Computes
+pub mod Text
 pub mod Cases
 pub mod Damaged
