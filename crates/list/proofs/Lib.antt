@@ -1,1 +1,3 @@
-pub mod Head
+pub mod Parts
+pub mod Runs
+pub mod Whole

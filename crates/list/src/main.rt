@@ -1,69 +1,45 @@
-// Lists a catalogue: reads it from standard input and prints its whole listing, or why it is none.
+// Lists a catalogue: reads it from standard input and prints its whole listing, or why it has none.
+// Relies on `listing` for the entries, on `layout` for the check's grounds and on `text` for what is put. The text is `answerText` of `model`:
+// `print` makes it page by page, and only reading and writing are beyond its contract.
 mod lines;
+mod pages;
 
+ghost use mathlib.Core.Path.{_≡_};
+ghost use lib.ListN.{length};
+ghost use Rattle.list.specs.Pages.{pageBound, wordCount};
 use libc::STDIN_FILENO;
-use libc::STDOUT_FILENO;
-use lines::count_from;
-use lines::put_from;
-use lines::put_head;
-use lines::put_run;
 use listing::RUN_BOUND;
-use listing::list_filled;
-use model::CheckAnswer;
-use model::ListAnswer;
-use model::Refusal;
+use model::FILE_BOUND;
+use pages::print;
 
-// How many bytes a catalogue may have.
-const FILE_BOUND: usize = 32768;
+// How many bytes the line of an entry has at most, how many are kept for the head line, and how many a page has.
+const LINE_BOUND: usize = 13;
+
+const HEAD_BOUND: usize = 64;
+
+const PAGE_BOUND: usize = LINE_BOUND * RUN_BOUND + HEAD_BOUND;
 
 // How many work words are lent: one for each left side of the widest target.
 const WORDS: usize = 65536;
 
-// The whole listing: a head line with the number of entries, and a line for each. The entries of the first call are kept, so a listing that
-// fits one run is made once. Where there are more, the rest is counted before the head line and made again behind it.
-fn list_all(cat: &[u8], tables: u32, sets: u32, out: &mut [u8], work: &mut [u32]) {
-    let run = list_filled(cat, 0, sets, RUN_BOUND, work);
-    let answer = run.answer;
-    match answer {
-        ListAnswer::Listed {
-            place,
-            passed: _,
-            count,
-        } => {
-            let entries = count_from(cat, place, sets, count, work);
-            let mut at = put_head(out, tables, sets, entries);
-            at = put_run(out, at, run, count);
-            at = put_from(out, at, cat, place, sets, work);
-            text::write(out, at);
-        }
-        ListAnswer::Refused(why) => refused(why, out),
-    }
+// Bytes for a page.
+fn page_bytes() -> [u8; PAGE_BOUND]
+    ensures { λ r. ⌜ pageBound ≡ length r ⌝ }
+{
+    [0; PAGE_BOUND]
 }
 
-// A refusal.
-fn refused(why: Refusal, out: &mut [u8]) {
-    let mut at = text::put_word(out, 0, b"refused ");
-    at = text::put_number(out, at, text::number(why) as u64);
-    at = text::put_byte(out, at, b'\n');
-    text::write(out, at);
-}
-
-// What the program prints for the bytes of a catalogue.
-fn answer(cat: &[u8], out: &mut [u8], work: &mut [u32]) {
-    match catalogue::check(cat) {
-        CheckAnswer::Sound { tables, sets } => list_all(cat, tables, sets, out, work),
-        CheckAnswer::Refused(why) => refused(why, out),
-    }
+// The work words.
+fn work_words() -> [u32; WORDS]
+    ensures { λ r. ⌜ wordCount ≡ length r ⌝ }
+{
+    [0; WORDS]
 }
 
 fn main() {
     let mut file = [0u8; FILE_BOUND + 1];
-    let mut out = io::large_buffer();
-    let mut work = [0u32; WORDS];
+    let mut out = page_bytes();
+    let mut work = work_words();
     let n = io::read_full(STDIN_FILENO, &mut file);
-    if FILE_BOUND < n {
-        io::write_all(STDOUT_FILENO, b"too long\n");
-    } else {
-        answer(&file[..n], &mut out, &mut work);
-    }
+    print(&file[..n], &mut out, &mut work);
 }

@@ -34,6 +34,7 @@ use Rattle.model.proofs.RefusedCalls.{refused-questions, refused-listin
 use Rattle.model.proofs.Line.{line, fork, depth}
 use Rattle.model.proofs.Replies.{question-replies, list-replies, packed-replies}
 use Rattle.model.proofs.Values.{bound-values, byte-order, refusal-numbers, answer-values}
+use Rattle.model.proofs.Text.{album-text}
 use Rattle.model.proofs.View.{holds-true, holds-false, breaks-by}
 
 -- the tests on these catalogues
@@ -191,6 +192,7 @@ cases =
       albumLength = album-length;
       albumCheck = album-check;
       albumListing = album-listing;
+      albumText = album-text;
       albumAccepted = album-accepted;
       noRowsAccepted = refl;
       oneMissingAccepted = refl;

@@ -13,7 +13,9 @@ pub mod Demand
 pub mod Obedient
 pub mod Listing
 pub mod Complete
+pub mod Short
 pub mod Computes
+pub mod Text
 pub mod Damaged
 pub mod Line
 pub mod RefusedCalls

@@ -28,3 +28,7 @@ missing = 4294967295
 -- the right side that is the row itself
 abbrev pub row : ℕ
 row = 255
+
+-- bytes that the listing program reads, at most
+abbrev pub fileBound : ℕ
+fileBound = 32768

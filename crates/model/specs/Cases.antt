@@ -15,7 +15,8 @@ use Rattle.model.specs.Entry.{entry}
 use Rattle.model.specs.Listing.{cells, ordinary}
 use Rattle.model.specs.Calls.{flat, Seen}
 use Rattle.model.specs.List.{ListMeaning}
-use Rattle.model.specs.Album.{album, noRows, oneMissing, bothMissing, equalRows}
+use Rattle.model.specs.Text.{answerText}
+use Rattle.model.specs.Album.{album, albumLines, noRows, oneMissing, bothMissing, equalRows}
 use Rattle.model.specs.Damaged.{Damages, AtTheBounds, DamageOrder}
 use Rattle.model.specs.RefusedCalls.{RefusedQuestions, RefusedListings, RefusedLists}
 use Rattle.model.specs.Line.{Line, Fork, Depth}
@@ -51,6 +52,8 @@ pub record Cases : Type 0 where
   pub albumLength : length album ≡ 84
   pub albumCheck : checkMeaning album ≡ answered (2 ∷ 10 ∷ [])
   pub albumListing : flat (cells (ordinary album)) ≡ entry 1 1 2 ∷ entry 1 3 row ∷ entry 1 6 row ∷ []
+  -- and what the listing program prints for it
+  pub albumText : answerText album ≡ albumLines
   -- every catalogue of the table is accepted
   pub albumAccepted : Accepted album
   pub noRowsAccepted : Accepted noRows

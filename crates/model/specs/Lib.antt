@@ -13,6 +13,7 @@ pub mod Calls
 pub mod Demand
 pub mod List
 pub mod Packed
+pub mod Text
 pub mod Album
 pub mod Damaged
 pub mod Line

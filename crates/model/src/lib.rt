@@ -9,6 +9,9 @@ pub const ROW_BOUND: u32 = 4096;
 
 pub const WORK_BOUND: usize = 16384;
 
+// How many bytes the listing program reads at most.
+pub const FILE_BOUND: usize = 32768;
+
 // The code of a missing cell.
 pub const MISSING: u32 = 4294967295;
 

@@ -4,10 +4,11 @@ use mathlib.Core.Path.{_≡_, refl, sym, subst, ap, ap₂, _∙_}
 use mathlib.Core.List.{List, [], _∷_, _++_}
 use native.Mathlib.Numerals.{add-one}
 use native.Mathlib.Omega.{arith}
-use lib.ListN.{length, length-append, set, take, getD}
-use lib.Seq.{sets, take-suc, take-all}
+use lib.ListN.{length, length-append, set, take, drop, getD}
+use lib.Seq.{sets, sets-eq, take-suc, take-all, take-append-seam}
 use Rattle.model.specs.declared.Entry.{Entry}
-use Rattle.text.specs.Text.{Puts, PutsA, Decimal, RightText, EntryText, space}
+use Rattle.model.specs.Text.{decimal, rightText, entryText, space}
+use Rattle.text.specs.Puts.{Puts}
 
 sets-append : (w v l : List ℕ) (i : ℕ) → sets l i (w ++ v) ≡ sets (sets l i w) (i + length w) v
 sets-append [] v l i = ap (λ (k : ℕ). sets l k v) (omega arith)
@@ -54,22 +55,25 @@ pub puts-whole : (word : List ℕ) (i : ℕ) {at : ℕ} {b c : List ℕ} {m : �
 puts-whole word i {at} {b} {c} {m} h p = subst (λ (w : List ℕ). Puts w at b c m) (take-all i word h) p
 
 -- the parts of an entry's text, one behind the other
-pub puts-entry : (e : Entry) {at : ℕ} {b₀ b₁ b₂ b₃ b₄ b₅ : List ℕ} {n₁ n₂ n₃ n₄ n₅ : ℕ} → PutsA (Decimal (e .target)) at b₀ b₁ n₁
-    → Puts space n₁ b₁ b₂ n₂ → PutsA (Decimal (e .left)) n₂ b₂ b₃ n₃ → Puts space n₃ b₃ b₄ n₄
-    → PutsA (RightText (e .right)) n₄ b₄ b₅ n₅ → PutsA (EntryText e) at b₀ b₅ n₅
-puts-entry e t s l u r = record {
-  word = t .word ++ (space ++ (l .word ++ (space ++ r .word)));
-  is = record {
-    target = t .word;
-    left = l .word;
-    right = r .word;
-    targetIs = t .is;
-    leftIs = l .is;
-    rightIs = r .is;
-    joined = refl;
-  };
-  puts =
-      puts-both (t .word) (space ++ (l .word ++ (space ++ r .word))) (t .puts) (puts-both space
-      (l .word ++ (space ++ r .word)) s (puts-both (l .word) (space ++ r .word) (l .puts) (puts-both space (r .word) u
-      (r .puts))));
-}
+pub puts-entry : (e : Entry) {at : ℕ} {b₀ b₁ b₂ b₃ b₄ b₅ : List ℕ} {n₁ n₂ n₃ n₄ n₅ : ℕ} → Puts (decimal (e .target)) at b₀ b₁ n₁
+    → Puts space n₁ b₁ b₂ n₂ → Puts (decimal (e .left)) n₂ b₂ b₃ n₃ → Puts space n₃ b₃ b₄ n₄
+    → Puts (rightText (e .right)) n₄ b₄ b₅ n₅ → Puts (entryText e) at b₀ b₅ n₅
+unfolding entryText
+puts-entry e t s l u r =
+    puts-both (decimal (e .target)) (space ++ (decimal (e .left) ++ (space ++ rightText (e .right)))) t
+    (puts-both space (decimal (e .left) ++ (space ++ rightText (e .right))) s
+    (puts-both (decimal (e .left)) (space ++ rightText (e .right)) l (puts-both space (rightText (e .right)) u r)))
+
+-- the same word by another name
+pub puts-same : {w v : List ℕ} {at : ℕ} {b c : List ℕ} {n : ℕ} → w ≡ v → Puts w at b c n → Puts v at b c n
+puts-same {at} {b} {c} {n} e p = subst (λ (u : List ℕ). Puts u at b c n) e p
+
+-- a word put at the start, where it fits: it is the first bytes, and the next position says how many
+pub puts-first : (w : List ℕ) {b c : List ℕ} {n : ℕ} → Puts w 0 b c n → length w ≤ length b → (n ≡ length w) × (take n c ≡ w)
+puts-first w {b} {c} {n} p h = (long, ap₂ (λ (k : ℕ) (l : List ℕ). take k l) long there ∙ take-append-seam w (drop (0 + length w) b))
+  where
+    long : n ≡ length w
+    long = omega (arith, p .behind (omega arith))
+
+    there : c ≡ w ++ drop (0 + length w) b
+    there = p .bytes (omega arith) ∙ sets-eq w b 0 (omega arith)

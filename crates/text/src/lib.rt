@@ -1,10 +1,13 @@
-// What the programs print: a refusal's number, and words, decimal numbers and entry lines, put into lent bytes at a position and written to
-// standard output in one go. Each answers the position behind what it put; what does not fit is left out.
+// Not for callers: what the programs print. A refusal's number, and words, decimal numbers and entries, put into lent bytes at a position and
+// written to standard output in one go. Each answers the position behind what it put; what does not fit is left out.
 // Relies on the types of `model` and on `io` for digits. Called by the programs.
 ghost use mathlib.Core.Path.{_≡_};
 ghost use mathlib.Core.List.{[], _∷_};
+ghost use lib.ListN.{length};
+ghost use Rattle.columns.specs.Test.{ifLe};
 ghost use Rattle.model.specs.Refusal.{number as Refusal·number};
-ghost use Rattle.text.specs.Text.{Puts, PutsA, Decimal, RightText, EntryText};
+ghost use Rattle.model.specs.Text.{decimal, rightText, entryText};
+ghost use Rattle.text.specs.Puts.{Puts};
 use libc::STDOUT_FILENO;
 use model::Entry;
 use model::ROW;
@@ -60,7 +63,7 @@ pub fn put_word(out: &mut [u8], at: usize, word: &[u8]) -> usize
 
 // A number in decimal.
 pub fn put_number(out: &mut [u8], at: usize, x: u64) -> usize
-    ensures { λ r. ⌜ PutsA (Decimal x) at (now (out .entry)) (now (out .exit)) r ⌝ }
+    ensures { λ r. ⌜ Puts (decimal x) at (now (out .entry)) (now (out .exit)) r ⌝ }
 {
     let mut digits = [0u8; 20];
     let k = io::decimal(x, &mut digits);
@@ -69,7 +72,7 @@ pub fn put_number(out: &mut [u8], at: usize, x: u64) -> usize
 
 // The right side of an entry: its number, or `row`.
 fn put_right(out: &mut [u8], at: usize, right: u8) -> usize
-    ensures { λ r. ⌜ PutsA (RightText right) at (now (out .entry)) (now (out .exit)) r ⌝ }
+    ensures { λ r. ⌜ Puts (rightText right) at (now (out .entry)) (now (out .exit)) r ⌝ }
 {
     if right as u32 == ROW {
         return put_word(out, at, b"row");
@@ -79,7 +82,7 @@ fn put_right(out: &mut [u8], at: usize, right: u8) -> usize
 
 // An entry: target, left side and right side, parted by one space.
 pub fn put_entry(out: &mut [u8], at: usize, e: Entry) -> usize
-    ensures { λ r. ⌜ PutsA (EntryText e) at (now (out .entry)) (now (out .exit)) r ⌝ }
+    ensures { λ r. ⌜ Puts (entryText e) at (now (out .entry)) (now (out .exit)) r ⌝ }
 {
     let mut next = put_number(out, at, e.target as u64);
     next = put_byte(out, next, b' ');
@@ -88,9 +91,13 @@ pub fn put_entry(out: &mut [u8], at: usize, e: Entry) -> usize
     put_right(out, next, e.right)
 }
 
-// Writes the first n bytes to standard output.
-pub fn write(out: &[u8], n: usize) {
+// Writes the first n bytes to standard output, and answers how many that are: none where there are fewer.
+pub fn write(out: &[u8], n: usize) -> usize
+    ensures { λ r. ⌜ r ≡ ifLe n (length (now (out .entry))) n 0 ⌝ }
+{
     if n <= out.len() {
         io::write_all(STDOUT_FILENO, &out[..n]);
+        return n;
     }
+    0
 }

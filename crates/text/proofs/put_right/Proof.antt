@@ -1,8 +1,9 @@
 -- `text::put_right` meets its contract. Assumes nothing.
-use mathlib.Core.Path.{refl}
-use mathlib.Core.Logic.{inl, inr}
+use mathlib.Core.Path.{sym}
 use native.Mathlib.Omega.{arith}
-use Rattle.text.specs.Text.{PutsA, Decimal, rowWord}
+use Rattle.columns.proofs.Test.{ifEq-yes, ifEq-no}
+use Rattle.model.specs.Text.{rightText}
+use Rattle.text.proofs.Puts.{puts-same}
 use borrow.Author.Needs.{needs}
 use Rattle.text.proofs.put_right.Statement.{statement}
 use Rattle.text.proofs.put_right.Tie as tie
@@ -17,8 +18,8 @@ same-length : tie.Need-same-length
 same-length c = search needs
 
 returns : tie.Need-returns
-returns c =
-    record { word = rowWord; is = inl (omega arith, refl); puts = c .before .before .put-word .ensures }
+unfolding rightText
+returns c = puts-same (sym (ifEq-yes _ (omega arith))) (c .before .before .put-word .ensures)
 
 put-number-requires : tie.Need-put-number-requires
 put-number-requires c κs = search needs
@@ -27,9 +28,8 @@ same-length-2 : tie.Need-same-length-2
 same-length-2 c = search needs
 
 returns-2 : tie.Need-returns-2
-returns-2 c =
-    let number : PutsA (Decimal _) _ _ _ _ = c .before .before .put-number .ensures in
-    record { word = number .word; is = inr ((λ e. omega arith), number .is); puts = number .puts }
+unfolding rightText
+returns-2 c = puts-same (sym (ifEq-no _ (λ e. omega arith))) (c .before .before .put-number .ensures)
 
 pub put-right-spec : {M : Type 1} → statement M
 put-right-spec =

