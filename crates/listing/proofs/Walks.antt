@@ -1,9 +1,8 @@
 -- What `pass`, `following`, `onward` and `put` show, over plain values.
 use Prim.Native.Nat.{ℕ, suc, _+_, _-_, _*_, _^_, _≤_, _<_, suc-le-suc}
 use mathlib.Core.Path.{_≡_, refl, sym, ap, ap₂, subst, _∙_}
-use mathlib.Core.Logic.{⊎-elim}
 use mathlib.Core.List.{List, [], _∷_, _++_}
-use native.Mathlib.Nat.{eq-or-lt-of-le}
+use native.Mathlib.Decide.{ℕ-discrete}
 use native.Mathlib.Numerals.{add-one}
 use native.Mathlib.Omega.{arith}
 use lib.Pow.{pow-mono}
@@ -12,6 +11,7 @@ use lib.ListN.{length, drop, getD, replicate, length-append}
 use Rattle.columns.specs.Bound.{columnBound}
 use Rattle.columns.proofs.Bits.{bit-power-le}
 use Rattle.columns.proofs.Membership.{members-own}
+use Rattle.columns.proofs.Test.{ifEq-yes, ifEq-no}
 use Rattle.columns.specs.Order.{inOrder, nextOf}
 use Rattle.columns.specs.Set.{membersOf}
 use Rattle.columns.specs.declared.ColumnSet.{ColumnSet}
@@ -28,14 +28,14 @@ use Rattle.model.specs.declared.ListAnswer.the-variants as answer
 use Rattle.model.proofs.Calls.{passed-nil, written-nil, passed-spent, written-spent, passed-full, written-full, passed-fit, written-fit}
 use Rattle.model.proofs.Check.{accepted-visible, accepted-tables}
 use Rattle.rights.specs.Rights.{rightAt, rightsMask, entriesOfMask, Ready, lowest}
-use Rattle.rights.proofs.Mask.{mask-lt, entries-count, entries-none, entries-of-rights, entries-lowest, lowest-le, lowest-bit, rightAt-row, rightAt-column}
+use Rattle.rights.proofs.Mask.{mask-lt, entries-count, entries-none, entries-of-rights, entries-lowest, lowest-le, lowest-bit}
 use Rattle.listing.specs.Stands.{Stands, StandsBefore, Found}
 use Rattle.listing.specs.Meaning.{cellsOf, ahead, final, rightBound, Good}
 use Rattle.listing.specs.Walks.{Fresh, First, Same, cellOf, Passes, After, Follows, Stopped, Goes, Puts, putFrom}
 use Rattle.listing.specs.declared.Walk.{Walk}
 use Rattle.listing.specs.Steps.{Went}
 use Rattle.listing.specs.declared.Stepped.{Stepped}
-use Rattle.listing.specs.declared.Stepped.the-variants.{Done}
+use Rattle.listing.specs.declared.Stepped.the-variants.{Put, Done}
 use Rattle.listing.specs.declared.Reached.{Reached}
 use Rattle.listing.specs.declared.Reached.the-variants.{At, Stop}
 use Rattle.listing.proofs.Stands.{stands-cells, stands-inside, stands-before, chosen-lt, next-within, next-target, next-none, found-stands, sets-le}
@@ -351,16 +351,32 @@ module _ (w : Walk) (p : Puts w) where
       bit-power-le (w .pending) (lowest (w .pending))
       (lowest-bit (w .target) (w .left) (w .members) (w .pending) (p .some) (p .pending) put-word)
 
-  pub put-right : rightAt (w .members) (lowest (w .pending)) < 2 ^ 8
-  put-right =
-      ⊎-elim
-      (λ (e : lowest (w .pending) ≡ w .members).
-      let r : rightAt (w .members) (lowest (w .pending)) ≡ row = ap (rightAt (w .members)) e ∙ rightAt-row (w .members) in
-      omega arith)
-      (λ (h : lowest (w .pending) < w .members).
-      let r = rightAt-column (w .members) (lowest (w .pending)) h in
-      omega (arith, p .members))
-      (eq-or-lt-of-le put-lowest)
+  pub put-right : (n : ℕ) {r : ℕ} → r ≡ rightAt n (lowest (w .pending)) → r < 2 ^ 8
+  unfolding rightAt
+  put-right n {r} e = at (ℕ-discrete (lowest (w .pending)) n)
+    where
+      at : Dec (lowest (w .pending) ≡ n) → r < 2 ^ 8
+      at (yes q) = let s = e ∙ ifEq-yes _ q in omega arith
+      at (no q) = let s = e ∙ ifEq-no row q in omega (arith, put-lowest, p .members)
+
+  -- what is put, from the number of the right and the power of its bit
+  pub put-is : {r b : ℕ} → r ≡ rightAt (w .members) (lowest (w .pending)) → b ≡ 2 ^ lowest (w .pending)
+      → Put (entry (w .target) (w .left) r)
+      (record {
+        target = w .target;
+        left = w .left;
+        members = w .members;
+        mode = w .mode;
+        place = w .place;
+        budget = w .budget;
+        room = w .room;
+        passed = w .passed;
+        count = w .count;
+        pending = w .pending - b;
+      })
+      ≡ putFrom w
+  unfolding putFrom
+  put-is e q = rw e (rw q refl)
 
   put-entries : entriesOfMask (w .target) (w .left) (w .members) (w .pending)
       ≡ entry (w .target) (w .left) (rightAt (w .members) (lowest (w .pending)))

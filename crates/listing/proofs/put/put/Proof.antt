@@ -2,8 +2,7 @@
 use native.Mathlib.Omega.{arith}
 use borrow.Author.Needs.{needs}
 use Rattle.rights.specs.Rights.{lowest}
-use Rattle.listing.specs.Walks.{putFrom}
-use Rattle.listing.proofs.Walks.{put-lowest, put-power, put-right}
+use Rattle.listing.proofs.Walks.{put-lowest, put-power, put-right, put-is}
 use Rattle.listing.proofs.put.put.Statement.{statement}
 use Rattle.listing.proofs.put.put.Tie as tie
 
@@ -17,7 +16,8 @@ cast-t6 : tie.Need-cast-t6
 unfolding lowest
 cast-t6 c =
     let s = c .before .before in
-    omega (arith, put-right (s .args .w) (s .pre), c .before .right-at .ensures)
+    let h = put-right (s .args .w) (s .pre) _ (c .before .right-at .ensures) in
+    search needs
 
 cast-t7 : tie.Need-cast-t7
 cast-t7 c = search needs
@@ -35,8 +35,10 @@ sub-t10 c =
     omega (arith, put-power (s .args .w) (s .pre), c .power .ensures)
 
 returns : tie.Need-returns
-unfolding lowest putFrom
-returns c = cc (c .power .ensures)
+unfolding lowest
+returns c =
+    let s = c .before .before .before .before in
+    put-is (s .args .w) (s .pre) (c .before .before .before .right-at .ensures) (c .power .ensures)
 
 pub put-spec : {M : Type 1} → statement M
 put-spec =
