@@ -5,7 +5,7 @@ use mathlib.Core.Path.{_≡_, sym, ap, ap₂, _∙_}
 use mathlib.Core.List.{List, [], _∷_}
 use mathlib.Core.Bool.{Bool, true, false, not}
 use native.Mathlib.Omega.{arith}
-use native.Mathlib.Decide.{decLt, ℕ-discrete}
+use native.Mathlib.Decide.{decLt}
 use lib.ListN.{length, take}
 use borrow.Author.Tests.{not-true, not-false}
 use denote.Ref.{RefT, now}
@@ -17,6 +17,7 @@ use Rattle.model.specs.declared.Entry.{Entry}
 use Rattle.model.specs.declared.OpenAnswer.{OpenAnswer}
 use Rattle.model.specs.declared.OpenAnswer.the-variants.{Opened, Refused}
 use Rattle.model.specs.declared.ReadAnswer.the-variants.{Next, End}
+use Rattle.packed.proofs.Opening.{answered-by, refused-by}
 use Rattle.packed.specs.Reading.{isOpen, entriesBy, frontBy, afterIn, Begun, nextOf, after, Reads}
 use Rattle.packed.specs.declared.Reader.{Reader}
 use Rattle.packed.proofs.Entries.{read-past, length-in, reads-next, reads-end}
@@ -67,20 +68,12 @@ module _ (a : OpenAnswer) (b : List ℕ) (t : Bool) (e : t ≡ isOpen a) where
 -- a reply says whether there is a ground
 module _ (b : List ℕ) where
   accepts : {v : List ℕ} → answered v ≡ openMeaning b → readCode b ≡ 0
-  unfolding openMeaning replyOf
-  accepts {v} p = go (ℕ-discrete (readCode b) 0)
-    where
-      go : Dec (readCode b ≡ 0) → readCode b ≡ 0
-      go (yes e) = e
-      go (no n) =
-          let q : answered v ≡ refused (readCode b) = p ∙ ifEq-no _ n in
-          let z : _≡_ {A = ℕ} 0 1 = cc in absurd (omega arith)
+  unfolding openMeaning
+  accepts p = answered-by (readCode b) (countIn b ∷ (length b - distanceIn b) ∷ []) p .0
 
   refuses : {k : ℕ} → refused k ≡ openMeaning b → readCode b ≡ 0 → ⊥
-  unfolding openMeaning replyOf
-  refuses {k} p e =
-      let q : refused k ≡ answered (countIn b ∷ (length b - distanceIn b) ∷ []) = p ∙ ifEq-yes _ e in
-      let z : _≡_ {A = ℕ} 0 1 = cc in omega arith
+  unfolding openMeaning
+  refuses p = refused-by (readCode b) (countIn b ∷ (length b - distanceIn b) ∷ []) p .1
 
   -- so what may be read by the answer is what may be read of the file
   pub entries-by : (a : OpenAnswer) → openReply a ≡ openMeaning b → entriesBy a b ≡ entriesRead b

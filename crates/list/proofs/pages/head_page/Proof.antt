@@ -1,7 +1,7 @@
 -- `head_page` meets its contract: the head line, the lines of the first run, and what is still to come behind it. Assumes nothing.
 use native.Mathlib.Omega.{arith}
 use borrow.Author.Needs.{needs}
-use Rattle.catalogue.proofs.tables.Reads as tables-reads
+use Rattle.layout.proofs.tables.Reads as tables-reads
 use Rattle.model.specs.Listing.{cells, ordinary}
 use Rattle.listing.proofs.list_filled.Reads as list-filled-reads
 use Rattle.list.proofs.Runs.{Ran, ran, ran-within, filled-answers}
