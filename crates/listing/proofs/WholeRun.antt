@@ -3,7 +3,7 @@ use Prim.Native.Nat.{ℕ, zero, suc, _≤_}
 use native.Mathlib.Omega.{arith}
 use mathlib.Core.Path.{_≡_, refl, sym, ap, ap₂, _∙_}
 use mathlib.Core.List.{List, _++_, append-assoc}
-use lib.ListN.{length, take, drop, replicate, length-replicate, take-append-drop}
+use lib.ListN.{length, drop, replicate, length-replicate, take-append-drop}
 use lib.Seq.{drop-append-le}
 use Rattle.columns.proofs.Test.{ifEq-yes, ifEq-no}
 use Rattle.model.specs.Calls.{runAfter}
@@ -11,7 +11,7 @@ use Rattle.model.specs.Entry.{entry}
 use Rattle.model.specs.declared.Entry.{Entry}
 use Rattle.model.specs.declared.ListAnswer.{ListAnswer}
 use Rattle.model.proofs.Stops.{written-fits}
-use Rattle.listing.specs.Meaning.{cellsOf, code}
+use Rattle.listing.specs.Meaning.{code}
 use Rattle.listing.specs.Steps.{whole}
 use Rattle.listing.specs.Filled.{runBound, cap, FilledBy}
 use Rattle.listing.proofs.ByValue.{fresh, rest, run-parts}
@@ -27,7 +27,8 @@ run-after-append {A} (suc k) es xs ys h =
     ap (λ (l : List A). l ++ ys) (ifEq-no (es ++ drop (length es) xs) (λ e. omega arith))
     ∙ sym (ifEq-no (es ++ drop (length es) (xs ++ ys)) (λ e. omega arith))
 
-pub run-is-run-after-zeros : (cat : List ℕ) (place budget room : ℕ) (work : List ℕ) (answer : ListAnswer) (run : List Entry) (workThen : List ℕ)
+pub run-is-run-after-zeros : (cat : List ℕ) (place budget room : ℕ) (work : List ℕ) (answer : ListAnswer) (run : List Entry)
+    (workThen : List ℕ)
     → FilledBy cat place budget room work answer run workThen
     → run ≡ runAfter (code cat place budget (cap room) (length work)) (whole cat place budget (cap room)) (replicate runBound (entry 0 0 0))
 run-is-run-after-zeros cat place budget room work answer run workThen f =
