@@ -121,14 +121,14 @@ fn next_page(cat: &[u8], page: Page, out: &mut [u8], work: &mut [u32]) -> Page
     let answer = filled.answer;
     match answer {
         ListAnswer::Listed {
-            place,
+            place: reached,
             passed: _,
             count,
         } => {
-            let len = put_run(out, 0, filled, count);
+            let end = put_run(out, 0, filled, count);
             Page {
-                len: len,
-                place: place,
+                len: end,
+                place: reached,
                 last: last,
             }
         }
