@@ -32,7 +32,7 @@ use Rattle.model.proofs.Computes.{computes}
 use Rattle.model.proofs.Damaged.{damages, at-the-bounds, damage-order}
 use Rattle.model.proofs.RefusedCalls.{refused-questions, refused-listings, refused-lists}
 use Rattle.model.proofs.Line.{line, fork, depth}
-use Rattle.model.proofs.Replies.{question-replies, list-replies, packed-replies}
+use Rattle.model.proofs.Replies.{question-replies, list-replies, packed-replies, text-replies}
 use Rattle.model.proofs.Values.{bound-values, byte-order, refusal-numbers, answer-values}
 use Rattle.model.proofs.Text.{album-text}
 use Rattle.model.proofs.View.{holds-true, holds-false, breaks-by}
@@ -210,6 +210,7 @@ cases =
       questionReplies = question-replies;
       listReplies = list-replies;
       packedReplies = packed-replies;
+      textReplies = text-replies;
       bounds = bound-values;
       byteOrder = byte-order;
       refusalNumbers = refusal-numbers;

@@ -1,23 +1,24 @@
 -- What calls reply and what they leave in lent memory, by computation on the bytes.
-use Prim.Native.Nat.{ℕ, _≤_}
+use Prim.Native.Nat.{ℕ, _≤_, _<_}
 use mathlib.Core.Path.{_≡_, refl, sym, ap, subst, _∙_}
 use mathlib.Core.List.{List, [], _∷_}
 use native.Mathlib.Omega.{arith}
 use lib.ListN.{length, drop, getD}
-use Rattle.columns.proofs.Test.{ifEq-no, ifLt-no}
+use Rattle.columns.proofs.Test.{ifEq-no, ifLt-no, ifLt-yes}
 use Rattle.model.specs.Bounds.{workBound}
 use Rattle.model.specs.Refusal.{number, orElse}
 use Rattle.model.specs.declared.Refusal.the-variants.{TooFewWords}
 use Rattle.model.specs.Reply.{Reply, refused, answered}
 use Rattle.model.specs.Question.{wordsCode, PairMeaning}
-use Rattle.model.specs.Check.{Accepted}
+use Rattle.model.specs.Check.{Accepted, checkCode}
 use Rattle.model.specs.Target.{view}
 use Rattle.model.specs.Listing.{ordinary, cells}
 use Rattle.model.specs.Calls.{placeCode, roomCode, callCode, Seen, Obeys}
 use Rattle.model.specs.List.{ListMeaning}
+use Rattle.model.specs.Text.{tooLong, refusedLine, listingText, answerText}
 use Rattle.model.specs.Album.{album}
 use Rattle.model.specs.Line.{inLine}
-use Rattle.model.specs.Replies.{QuestionReplies, ListReplies, PackedReplies}
+use Rattle.model.specs.Replies.{QuestionReplies, ListReplies, PackedReplies, TextReplies}
 use Rattle.model.specs.declared.Entry.{Entry}
 use Rattle.model.proofs.Truth.{true-is}
 use Rattle.model.proofs.Grounds.{orElse-next}
@@ -130,4 +131,28 @@ packed-replies =
       shortRun = refl;
       runOfOne = refl;
       runKept = refl;
+    }
+
+at-the-bound : (b : List ℕ) → length b ≡ 32768 → checkCode b ≡ 2 → answerText b ≡ refusedLine 2
+unfolding answerText
+at-the-bound b l e =
+    ifLt-no tooLong (omega arith) ∙ ifEq-no (listingText b) (λ z. omega (arith, e, z)) ∙ ap refusedLine e
+
+too-long : (b : List ℕ) → 32768 < length b → answerText b ≡ tooLong
+unfolding answerText
+too-long b h = ifLt-yes _ h
+
+pub text-replies : TextReplies
+unfolding computes
+text-replies =
+    record {
+      zero = refl;
+      ten = refl;
+      widest = refl;
+      noRowsText = refl;
+      refused1 = refl;
+      refused6 = refl;
+      refused16 = refl;
+      atTheBound = at-the-bound;
+      long = too-long;
     }

@@ -157,5 +157,5 @@ bytes-enough b = ⊎-elim (λ h. ap answerText (take-all (suc fileBound) b h)) l
 
 -- the album's text, byte for byte
 pub album-text : answerText album ≡ albumLines
-unfolding computes answerText listingText headLine refusedLine linesOf entryLine entryText rightText decimal decimalIn
+unfolding computes
 album-text = refl

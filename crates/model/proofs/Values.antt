@@ -18,6 +18,7 @@ bound-values =
       aboveTheRoot = refl;
       missingCell = refl;
       theRow = refl;
+      fileAtMost = refl;
     }
 
 pub byte-order : ByteOrder

@@ -20,7 +20,7 @@ use Rattle.model.specs.Album.{album, albumLines, noRows, oneMissing, bot
 use Rattle.model.specs.Damaged.{Damages, AtTheBounds, DamageOrder}
 use Rattle.model.specs.RefusedCalls.{RefusedQuestions, RefusedListings, RefusedLists}
 use Rattle.model.specs.Line.{Line, Fork, Depth}
-use Rattle.model.specs.Replies.{QuestionReplies, ListReplies, PackedReplies}
+use Rattle.model.specs.Replies.{QuestionReplies, ListReplies, PackedReplies, TextReplies}
 use Rattle.model.specs.Values.{BoundValues, ByteOrder, RefusalNumbers, AnswerValues}
 use Rattle.model.specs.declared.Entry.{Entry}
 
@@ -75,6 +75,7 @@ pub record Cases : Type 0 where
   pub questionReplies : QuestionReplies
   pub listReplies : ListReplies
   pub packedReplies : PackedReplies
+  pub textReplies : TextReplies
   -- specs/Values.antt: the document's numbers
   pub bounds : BoundValues
   pub byteOrder : ByteOrder

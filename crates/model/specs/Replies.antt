@@ -1,17 +1,20 @@
--- What calls reply, and what they leave in lent memory: questions, pairs and listing calls on the album, and a packed list.
-use Prim.Native.Nat.{ℕ, _≤_}
+-- What calls reply, and what they leave in lent memory: questions, pairs and listing calls on the album, and a packed list. And what the
+-- listing program prints beside the album's lines.
+use Prim.Native.Nat.{ℕ, _≤_, _<_}
 use mathlib.Core.Path.{_≡_}
 use mathlib.Core.List.{List, [], _∷_, _++_}
 use lib.ListN.{length, replicate, drop}
 use Rattle.model.specs.Bounds.{workBound, row}
 use Rattle.model.specs.Reply.{Reply, refused, answered, wordsAfter}
+use Rattle.model.specs.Check.{checkCode}
 use Rattle.model.specs.Question.{askMeaning, PairMeaning}
 use Rattle.model.specs.Entry.{entry}
 use Rattle.model.specs.Calls.{Seen, workAfter}
 use Rattle.model.specs.List.{ListMeaning}
 use Rattle.model.specs.Packed.{packed, packMeaning, outputAfter, openMeaning, entriesRead, frontRead, readFrom, readMeaning, runRead, readAt}
-use Rattle.model.specs.Album.{album}
-use Rattle.model.specs.Damaged.{tooWide}
+use Rattle.model.specs.Text.{decimal, entryLine, refusedLine, answerText}
+use Rattle.model.specs.Album.{album, noRows}
+use Rattle.model.specs.Damaged.{cut, tooWide}
 use Rattle.model.specs.Line.{inLine}
 use Rattle.model.specs.RefusedCalls.{lostEntry}
 use Rattle.model.specs.declared.Entry.{Entry}
@@ -136,3 +139,25 @@ pub record PackedReplies : Type 0 where
   pub shortRun : readMeaning behind 1 1 ≡ answered (1 ∷ [])
   pub runOfOne : runRead behind 1 (blank ∷ []) ≡ entry 1 3 row ∷ []
   pub runKept : runRead lostEntry 0 (blank ∷ []) ≡ blank ∷ []
+
+-- the listing program's text, byte for byte
+pub record TextReplies : Type 0 where
+  pub zero : decimal 0 ≡ 48 ∷ []
+  pub ten : decimal 10 ≡ 49 ∷ 48 ∷ []
+  -- `15 65535 row`: no line is longer
+  pub widest : entryLine (entry 15 65535 row) ≡ 49 ∷ 53 ∷ 32 ∷ 54 ∷ 53 ∷ 53 ∷ 51 ∷ 53 ∷ 32 ∷ 114 ∷ 111 ∷ 119 ∷ 10 ∷ []
+  -- `tables 1 sets 2 entries 2`, `0 0 0`, `0 0 row`: a table without rows
+  pub noRowsText : answerText noRows
+      ≡ 116 ∷ 97 ∷ 98 ∷ 108 ∷ 101 ∷ 115 ∷ 32 ∷ 49 ∷ 32
+      ∷ 115 ∷ 101 ∷ 116 ∷ 115 ∷ 32 ∷ 50 ∷ 32
+      ∷ 101 ∷ 110 ∷ 116 ∷ 114 ∷ 105 ∷ 101 ∷ 115 ∷ 32 ∷ 50 ∷ 10
+      ∷ 48 ∷ 32 ∷ 48 ∷ 32 ∷ 48 ∷ 10
+      ∷ 48 ∷ 32 ∷ 48 ∷ 32 ∷ 114 ∷ 111 ∷ 119 ∷ 10
+      ∷ []
+  -- `refused 1`, `refused 6` and `refused 16`
+  pub refused1 : answerText cut ≡ 114 ∷ 101 ∷ 102 ∷ 117 ∷ 115 ∷ 101 ∷ 100 ∷ 32 ∷ 49 ∷ 10 ∷ []
+  pub refused6 : answerText tooWide ≡ 114 ∷ 101 ∷ 102 ∷ 117 ∷ 115 ∷ 101 ∷ 100 ∷ 32 ∷ 54 ∷ 10 ∷ []
+  pub refused16 : refusedLine 16 ≡ 114 ∷ 101 ∷ 102 ∷ 117 ∷ 115 ∷ 101 ∷ 100 ∷ 32 ∷ 49 ∷ 54 ∷ 10 ∷ []
+  -- at the bound a file is looked at, as this one that is refused by 2; one byte more is `too long`, whatever the bytes
+  pub atTheBound : (b : List ℕ) → length b ≡ 32768 → checkCode b ≡ 2 → answerText b ≡ 114 ∷ 101 ∷ 102 ∷ 117 ∷ 115 ∷ 101 ∷ 100 ∷ 32 ∷ 50 ∷ 10 ∷ []
+  pub long : (b : List ℕ) → 32768 < length b → answerText b ≡ 116 ∷ 111 ∷ 111 ∷ 32 ∷ 108 ∷ 111 ∷ 110 ∷ 103 ∷ 10 ∷ []

@@ -4,7 +4,7 @@ use mathlib.Core.Path.{_≡_}
 use mathlib.Core.List.{List, [], _∷_}
 use lib.ListN.{take, drop}
 use Rattle.columns.specs.Bound.{columnBound}
-use Rattle.model.specs.Bounds.{tableBound, rowBound, workBound, smallestFile, noParent, missing, row}
+use Rattle.model.specs.Bounds.{tableBound, rowBound, workBound, smallestFile, noParent, missing, row, fileBound}
 use Rattle.model.specs.Bytes.{byteAt, u16At, u32At, bytes2, bytes4}
 use Rattle.model.specs.Refusal.{number, orElse, firstOf}
 use Rattle.model.specs.Reply.{Reply, refused, answered, replyOf, checkReply, askReply, pairReply, listReply, packReply, openReply, entriesReply}
@@ -29,6 +29,7 @@ pub record BoundValues : Type 0 where
   pub aboveTheRoot : _≡_ {A = ℕ} noParent 65535
   pub missingCell : _≡_ {A = ℕ} missing 4294967295
   pub theRow : _≡_ {A = ℕ} row 255
+  pub fileAtMost : _≡_ {A = ℕ} fileBound 32768
 
 -- numbers are unsigned and little-endian, read and written; past the end stand zeros
 pub record ByteOrder : Type 0 where
