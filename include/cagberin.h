@@ -23,7 +23,9 @@
  * Threads. Several threads may share one catalogue or packed list, since calls only read it, as long as nobody alters
  * it meanwhile. What a call may write must be each thread's own.
  *
- * Stack. cagberin_list needs up to 640 KB (655,360 bytes) of stack, each other call up to 16 KB (16,384 bytes).
+ * Stack. cagberin_list needs up to 300 KB (307,200 bytes) of stack, cagberin_ask and cagberin_pair up to 240 KB
+ * (245,760 bytes), each other call up to 16 KB (16,384 bytes). Measured on a stack filled with a pattern beforehand, on
+ * catalogues of 2 to 4,096 rows: 274,104 bytes for a listing, 220,472 for a pair, 213,224 for a question.
  */
 #ifndef CAGBERIN_H
 #define CAGBERIN_H

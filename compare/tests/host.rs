@@ -6,9 +6,10 @@ use compare::simple::{self, Entry, COLUMNS, NO_PARENT, ROW, TABLES, WORK_WORDS};
 use compare::{ffi, table};
 use std::thread::{scope, Builder};
 
-/// The stack of `cagberin_list`, and of each other call, as the header states it. A thread's own needs come out of
-/// the same.
-const LIST_STACK: usize = 655_360;
+/// The stack of `cagberin_list`, of a question or pair, and of each other call, as the header states it. A thread's own
+/// needs come out of the same.
+const LIST_STACK: usize = 307_200;
+const QUESTION_STACK: usize = 245_760;
 const OTHER_STACK: usize = 16_384;
 
 /// A line of 16 tables, each with one column, and enough rows below that a listing takes all its ways.
@@ -52,7 +53,9 @@ fn listings_of_a_shared_catalogue_in_threads_with_the_stated_stack() {
     for file in [line(), flat()] {
         let entries = table::listing(&simple::check(&file).unwrap());
         scope(|threads| {
-            for (budget, words) in [(u32::MAX, WORK_WORDS), (u32::MAX, 65_536), (9_999, WORK_WORDS), (9_999, 65_536)] {
+            let lent = [WORK_WORDS, 65_536];
+            for (budget, words) in [1, 9_999, u32::MAX].into_iter().flat_map(|budget| lent.map(|words| (budget, words)))
+            {
                 let thread = Builder::new().stack_size(LIST_STACK);
                 let (file, entries) = (&file, &entries);
                 thread.spawn_scoped(threads, move || assert!(lists(file, budget, words, entries))).unwrap();
@@ -69,12 +72,18 @@ fn other_calls_on_shared_files_in_threads_with_the_stated_stack() {
     let mut list = vec![0; 4 * entries.len() + 8];
     simple::pack(&entries, &mut list).unwrap();
     let (file, list, entries) = (&file, &list, &entries);
-    let calls = move || {
+    let questions = move || {
         let mut work = vec![7; WORK_WORDS];
+        for left in [0, 1, 0xAAAA, 0xFFFF] {
+            for right in [target, ROW] {
+                let holds = ffi::ask(file, target, left, right, &mut work);
+                let pair = ffi::pair(file, target, left, right, &mut work, &mut 0, &mut 0);
+                assert_eq!(holds + pair, 1);
+            }
+        }
+    };
+    let calls = move || {
         assert_eq!(ffi::check(file, &mut 0, &mut 0), 0);
-        let holds = ffi::ask(file, target, 0xFFFF, ROW, &mut work);
-        let pair = ffi::pair(file, target, 0xFFFF, ROW, &mut work, &mut 0, &mut 0);
-        assert_eq!(holds + pair, 1);
         let mut output = vec![0; list.len()];
         assert_eq!(ffi::pack(entries, &mut output), list.len() as i64);
         assert!(output == *list);
@@ -85,6 +94,7 @@ fn other_calls_on_shared_files_in_threads_with_the_stated_stack() {
     };
     scope(|threads| {
         for _ in 0..4 {
+            Builder::new().stack_size(QUESTION_STACK).spawn_scoped(threads, questions).unwrap();
             Builder::new().stack_size(OTHER_STACK).spawn_scoped(threads, calls).unwrap();
         }
     });

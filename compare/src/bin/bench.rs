@@ -35,8 +35,11 @@ const GIVE_UP: Duration = Duration::from_secs(180);
 struct Shape {
     name: &'static str,
     file: Vec<u8>,
-    /// A question of the last table that holds: its left side and its right.
+    /// A dependency of the last table that holds: its left side and its right.
     holds: (u32, u32),
+    /// The same with a left side of eight columns, and eight columns that are meant as a key.
+    wide: (u32, u32),
+    key: u32,
 }
 
 /// The number of values of each column.
@@ -68,15 +71,41 @@ fn flat(name: &'static str, rows: usize, columns: usize, ranges: &Ranges) -> Sha
     };
     let rows = (0..rows).map(|_| row()).collect();
     let draft = Draft { tables: vec![DraftTable { columns, parent: NO_PARENT, rows }] };
-    Shape { name, file: draft.file(), holds: (0b11, columns as u32 - 1) }
+    let last = columns as u32 - 1;
+    let key = if columns == 16 { 0b0011_1111_1100_0000 } else { 0b1111_1111 };
+    Shape { name, file: draft.file(), holds: (0b11, last), wide: (0xFF & !(1 << last), last), key }
 }
 
-/// The columns and rows of a line of tables.
-const LINE: [(usize, usize); 4] = [(3, 40), (4, 200), (4, 1_000), (5, 4_096)];
+/// One table in which only the last two rows break a dependency: of column 0, which tells all other rows apart, and column 15.
+fn last_two() -> Vec<u8> {
+    let mut random = Random::new(2);
+    let mut row = |k: usize| {
+        let mut codes: Vec<u32> = (0..16).map(|column| code(&mut random, &MODERATE, column)).collect();
+        codes[0] = k.min(4_094) as u32;
+        codes[15] = k as u32 % 2;
+        (NO_PARENT, codes)
+    };
+    let rows = (0..4_096).map(|k| row(k)).collect();
+    Draft { tables: vec![DraftTable { columns: 16, parent: NO_PARENT, rows }] }.file()
+}
 
-/// A line of tables. The last column of the last table is given by its first and the root's first.
-fn line(name: &'static str, ranges: &Ranges) -> Shape {
-    let sizes = LINE;
+/// One table in which all codes of a column differ and stand in one chain of the library's grouping of rows: the worst that its hash can meet.
+fn one_chain(name: &'static str) -> Shape {
+    let chain = |code: u64| (code * 2_246_822_519) >> 20 & 0xFFF;
+    let codes: Vec<u32> = (0..).filter(|code| chain(*code) == 0).take(4_096).map(|code| code as u32).collect();
+    let rows = codes.iter().map(|code| (NO_PARENT, vec![*code; 16])).collect();
+    let draft = Draft { tables: vec![DraftTable { columns: 16, parent: NO_PARENT, rows }] };
+    Shape { name, file: draft.file(), holds: (1, 15), wide: (0xFF, 15), key: 0b0011_1111_1100_0000 }
+}
+
+/// The columns and rows of lines of tables.
+const LINE: [(usize, usize); 4] = [(3, 40), (4, 200), (4, 1_000), (5, 4_096)];
+const SHORT_LINE: [(usize, usize); 4] = [(3, 8), (4, 40), (4, 200), (5, 800)];
+const NESTED: [(usize, usize); 16] = [(1, 4_096); 16];
+
+/// A line of tables. The last column of the last table is given by its first and the root's first, or where it is
+/// the only one by the root's and the next.
+fn line(name: &'static str, sizes: &[(usize, usize)], ranges: &Ranges) -> Shape {
     let mut random = Random::new(sizes.len() as u64);
     let mut draft = Draft::default();
     let mut inherited = 0;
@@ -87,16 +116,20 @@ fn line(name: &'static str, ranges: &Ranges) -> Shape {
             let parent = if i == 0 { NO_PARENT } else { k * sizes[i - 1].1 / rows };
             let visible = inherited..inherited + columns;
             let mut codes: Vec<u32> = visible.map(|column| code(&mut random, ranges, column)).collect();
-            if i + 1 == sizes.len() {
+            if i + 1 == sizes.len() && *columns > 1 {
                 codes[columns - 1] = mixed(&[root_code(&draft, i - 1, parent), codes[0]], ranges[15]);
+            } else if i + 1 == sizes.len() {
+                codes[0] = mixed(&[root_code(&draft, i - 1, parent)], ranges[15]);
             }
             table.rows.push((parent, codes));
         }
         inherited += columns;
         draft.tables.push(table);
     }
-    let first_own = inherited - sizes[sizes.len() - 1].0;
-    Shape { name, file: draft.file(), holds: (1 | 1 << first_own, inherited as u32 - 1) }
+    let (last, first_own) = (inherited as u32 - 1, inherited - sizes[sizes.len() - 1].0);
+    let left = (1 | 1 << first_own) & !(1 << last);
+    let wide = (left | 0b1111_1110) & !(1 << (if left == 1 { 8 } else { 7 }));
+    Shape { name, file: draft.file(), holds: (left, last), wide: (wide, last), key: 0b0011_1111_1100_0000 }
 }
 
 /// The root's first code above a row of a table in a line.
@@ -109,14 +142,27 @@ fn root_code(draft: &Draft, table: usize, row: usize) -> u32 {
     }
 }
 
-const SHAPES: [&str; 6] = ["flat-4096x16", "flat-4096x16-few", "line-4", "line-4-few", "flat-480x16", "flat-60x8"];
+const SHAPES: [&str; 9] = [
+    "flat-4096x16",
+    "flat-4096x16-few",
+    "line-4",
+    "line-4-few",
+    "nested-16",
+    "flat-480x16",
+    "line-4-800",
+    "flat-60x8",
+    "one-chain",
+];
 
 fn shape(name: &str) -> Option<Shape> {
     match name {
         "flat-4096x16" => Some(flat("flat-4096x16", 4_096, 16, &MODERATE)),
         "flat-4096x16-few" => Some(flat("flat-4096x16-few", 4_096, 16, &FEW)),
-        "line-4" => Some(line("line-4", &MODERATE)),
-        "line-4-few" => Some(line("line-4-few", &FEW)),
+        "line-4" => Some(line("line-4", &LINE, &MODERATE)),
+        "line-4-few" => Some(line("line-4-few", &LINE, &FEW)),
+        "nested-16" => Some(line("nested-16", &NESTED, &MODERATE)),
+        "one-chain" => Some(one_chain("one-chain")),
+        "line-4-800" => Some(line("line-4-800", &SHORT_LINE, &MODERATE)),
         "flat-480x16" => Some(flat("flat-480x16", 480, 16, &MODERATE)),
         "flat-60x8" => Some(flat("flat-60x8", 60, 8, &MODERATE)),
         _ => None,
@@ -251,29 +297,73 @@ fn line_of(call: &str, library: &str, simple: &str, tane: &str, table: &str) {
     println!("  {call:<34} {library:>14}  {simple:>24}  {tane:>22}  {table:>20}");
 }
 
+/// The time of the simple implementation for a question, and whether it holds.
+fn simple_question(file: &[u8], target: u32, left: u32, right: u32) -> (f64, bool) {
+    let mut work = vec![0; WORK_WORDS];
+    let mut holds = false;
+    let time = least(|| {
+        seconds(|| {
+            let catalogue = simple::check(file).unwrap();
+            holds = simple::ask(&catalogue, target, left, right, &mut work).unwrap();
+        })
+    });
+    (time, holds)
+}
+
 fn questions(shape: &Shape, catalogue: &Catalogue) {
     let file = &shape.file;
     let target = catalogue.tables.len() as u32 - 1;
-    let (left, right) = shape.holds;
     let library = least(|| seconds(|| ffi::check(file, &mut 0, &mut 0)));
     let simple = least(|| seconds(|| simple::check(file)));
     line_of("check", &shown(library), &ratio(simple, Some(library)), "", "");
-    let mut work = vec![0; WORK_WORDS];
-    for (call, left, right) in [("ask, holds", left, right), ("ask, breaks", left, ROW)] {
+    let (holds, wide, key) = (shape.holds, shape.wide, shape.key);
+    for (call, left, right) in [
+        ("small", holds.0, holds.1),
+        ("8 columns", wide.0, wide.1),
+        ("8 columns, the row", key, ROW),
+        ("small, the row", holds.0, ROW),
+    ] {
+        let (simple, holds) = simple_question(file, target, left, right);
+        let told = if holds { "holds" } else { "breaks" };
         let mut reply = 0;
         let library = with_words(WORK_WORDS, |work| reply = ffi::ask(file, target, left, right, work));
-        assert_eq!(reply, (call == "ask, holds") as i32);
-        let simple =
-            least(|| seconds(|| simple::check(file).and_then(|it| simple::ask(&it, target, left, right, &mut work))));
-        line_of(call, &shown(library), &ratio(simple, Some(library)), "", "");
-    }
-    for (call, left, right) in [("pair, none", left, right), ("pair, found", left, ROW)] {
-        let mut reply = 0;
+        assert_eq!(reply, holds as i32);
+        line_of(&format!("ask, {call}: {told}"), &shown(library), &ratio(simple, Some(library)), "", "");
         let library = with_words(WORK_WORDS, |work| reply = ffi::pair(file, target, left, right, work, &mut 0, &mut 0));
-        assert_eq!(reply, (call == "pair, found") as i32);
-        let simple =
-            least(|| seconds(|| simple::check(file).and_then(|it| simple::pair(&it, target, left, right, &mut work))));
-        line_of(call, &shown(library), &ratio(simple, Some(library)), "", "");
+        assert_eq!(reply, !holds as i32);
+        line_of(&format!("pair, {call}"), &shown(library), &ratio(simple, Some(library)), "", "");
+    }
+}
+
+/// The pair of a dependency that only the last two rows break.
+fn last_pair() {
+    let file = last_two();
+    let (mut first, mut second) = (0, 0);
+    let library = with_words(WORK_WORDS, |work| {
+        assert_eq!(ffi::pair(&file, 0, 1, 15, work, &mut first, &mut second), 1);
+    });
+    assert_eq!((first, second), (4_094, 4_095));
+    let (simple, _) = simple_question(&file, 0, 1, 15);
+    line_of("pair, only the last two rows", &shown(library), &ratio(simple, Some(library)), "", "");
+}
+
+/// One call of budget 1 and one of budget 2, at places early, in the middle and late among the last table's sets.
+fn single_calls(shape: &Shape, catalogue: &Catalogue) {
+    let mut run = vec![Entry { target: 9, right: 9, left: 9 }; 64];
+    let (end, here) = (catalogue.sets() as u32, 1u32 << catalogue.tables[catalogue.tables.len() - 1].visible.len());
+    for words in [MANY_WORDS, WORK_WORDS] {
+        for (name, place) in [("early", end - here + 1), ("middle", end - here / 2), ("late", end - 2)] {
+            let mut times = [0.0; 2];
+            for (time, budget) in times.iter_mut().zip([1, 2]) {
+                *time = with_words(words, |work| {
+                    let (mut next, mut passed) = (0, 0);
+                    let reply = ffi::list(&shape.file, place, budget, &mut run, work, &mut next, &mut passed);
+                    assert!(reply >= 0 && passed == budget);
+                });
+            }
+            let call = format!("a call of budget 1, {name}, {words}");
+            line_of(&call, &shown(times[0]), &format!("budget 2: {}", shown(times[1])), "", "");
+        }
     }
 }
 
@@ -340,6 +430,12 @@ fn main() {
         println!("{name}: {} bytes, {} sets, {entries} entries", shape.file.len(), catalogue.sets());
         line_of("call", "library", "simple", "TANE", "table");
         questions(&shape, &catalogue);
+        if name == "flat-4096x16" {
+            last_pair();
+        }
+        if ["flat-4096x16", "flat-4096x16-few", "nested-16", "flat-480x16", "one-chain"].contains(&name) {
+            single_calls(&shape, &catalogue);
+        }
         listings(&shape, &catalogue);
     }
 }

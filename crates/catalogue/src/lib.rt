@@ -1,11 +1,11 @@
 // The check of a catalogue: the public call that says whether bytes are one.
-// Relies on `layout`, where each ground of the refusals 1 to 7 has a function. Called by hosts and programs; the other public calls check first
+// Relies on `grounds`, where each ground of the refusals 1 to 7 has a function. Called by hosts and programs; the other public calls check first
 // by themselves.
 ghost use mathlib.Core.Path.{_≡_};
 ghost use Rattle.model.specs.Reply.{checkReply};
 ghost use Rattle.model.specs.Check.{checkMeaning};
-use layout::check_code;
-use layout::refusal;
+use grounds::check_code;
+use grounds::refusal;
 use layout::sets;
 use layout::tables;
 use model::CheckAnswer;

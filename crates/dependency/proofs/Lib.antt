@@ -1,3 +1,3 @@
-pub mod Pairs
+pub mod Members
 pub mod Replies
 pub mod Exactly

@@ -21,8 +21,8 @@ use Rattle.model.specs.Target.{view}
 use Rattle.model.proofs.Grounds.{orElse-left, orElse-right, ifLt-passes, ifLt-fails, ifEq-le, ifLt-le, orElse-le}
 use Rattle.model.proofs.Target.{view-equivalence}
 use Rattle.model.proofs.View.{true-holds, no-breaks-holds, breaks-holds-false}
-use Rattle.layout.proofs.Sound.{check-code-le}
-use Rattle.dependency.specs.Pairs.{Posed}
+use Rattle.grounds.proofs.Sound.{check-code-le}
+use Rattle.dependency.specs.Posed.{Posed}
 
 module _ (b : List ℕ) (t x a w : ℕ) where
   -- a question's code is 0 or the number of one of its refusals, of which the last is for too few words
@@ -86,13 +86,9 @@ module _ (b : List ℕ) (t x a w : ℕ) where
   no-breaks-true : ((p q : ℕ) → Breaks (view b t) x a p q → ⊥) → holds (view b t) x a ≡ true
   no-breaks-true none = true-holds (view b t) x a (no-breaks-holds (view b t) (view-equivalence b t) x a none)
 
-  pub ask-holds : {code : ℕ} → code ≡ questionCode b t x a w → code ≡ 0 → ((p q : ℕ) → Breaks (view b t) x a p q → ⊥)
-      → answered (1 ∷ []) ≡ askMeaning b t x a w
-  ask-holds e z none = ap (λ (h : Bool). answered (pick h 1 0 ∷ [])) (sym (no-breaks-true none)) ∙ ask-meant (sym e ∙ z)
-
-  pub ask-breaks : {code p q : ℕ} → code ≡ questionCode b t x a w → code ≡ 0 → Breaks (view b t) x a p q
-      → answered (0 ∷ []) ≡ askMeaning b t x a w
-  ask-breaks e z h = ap (λ (h : Bool). answered (pick h 1 0 ∷ [])) (sym (breaks-holds-false h)) ∙ ask-meant (sym e ∙ z)
+  pub ask-told : {code : ℕ} (told : Bool) → code ≡ questionCode b t x a w → code ≡ 0 → told ≡ holds (view b t) x a
+      → answered (pick told 1 0 ∷ []) ≡ askMeaning b t x a w
+  ask-told told e z f = ap (λ (h : Bool). answered (pick h 1 0 ∷ [])) f ∙ ask-meant (sym e ∙ z)
 
   pub pair-refused : {code : ℕ} (r : Refusal) → code ≡ questionCode b t x a w → (code ≡ 0 → ⊥) → number r ≡ code
       → PairMeaning b t x a w (refused (number r))

@@ -1,20 +1,22 @@
 // The technician's two questions about a dependency: does it hold, and if not, which two rows break it?
-// Relies on `layout` for the check's grounds and on `agreement` for the agreement of two rows. Called by hosts and programs.
+// Relies on `grounds` for the check's grounds, on `keys` for the keys of the members that a question looks at, and on `partition` and `search`, which
+// answer it from keys alone. Called by hosts and programs.
 ghost use mathlib.Core.Path.{_≡_};
 ghost use lib.ListN.{length};
 ghost use Rattle.model.specs.Question.{questionCode, askMeaning, PairMeaning};
 ghost use Rattle.model.specs.Reply.{askReply, pairReply, wordsAfter};
 
+mod keyed;
 mod question;
-mod search;
 
-use layout::refusal;
+use grounds::refusal;
+use keyed::breaking_pair;
+use keyed::holds;
 use lent::zero_words;
 use model::AskAnswer;
 use model::PairAnswer;
 use question::question_code;
 use search::Found;
-use search::breaking_pair;
 
 // Does the left side give the right side in the target table? Every work word is 0 after an answer, and none is altered by a refusal.
 pub fn ask(cat: &[u8], target: u32, left: u32, right: u32, work: &mut [u32]) -> AskAnswer
@@ -28,13 +30,10 @@ pub fn ask(cat: &[u8], target: u32, left: u32, right: u32, work: &mut [u32]) -> 
         return AskAnswer::Refused(refusal(code));
     }
     zero_words(work);
-    match breaking_pair(cat, target, left, right) {
-        Found::Pair {
-            first: _,
-            second: _,
-        } => AskAnswer::Breaks,
-        Found::Nothing => AskAnswer::Holds,
+    if holds(cat, target, left, right) {
+        return AskAnswer::Holds;
     }
+    AskAnswer::Breaks
 }
 
 // Two rows that break the dependency, the lower first, or 'none' where it holds. The work words as above.

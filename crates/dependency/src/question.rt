@@ -1,11 +1,11 @@
 // The refusals of a question: those of the check, then 8 to 11, by number. A ground's code is the refusal's number, or 0 where there is none.
 ghost use mathlib.Core.Path.{_≡_};
 ghost use Rattle.model.specs.Question.{targetCode, leftSideCode, rightSideCode, wordsCode, questionCode};
-use layout::TOO_FEW_WORDS;
-use layout::UNKNOWN_COLUMN;
-use layout::UNKNOWN_RIGHT;
-use layout::UNKNOWN_TABLE;
-use layout::check_code;
+use grounds::TOO_FEW_WORDS;
+use grounds::UNKNOWN_COLUMN;
+use grounds::UNKNOWN_RIGHT;
+use grounds::UNKNOWN_TABLE;
+use grounds::check_code;
 use layout::inherited;
 use layout::tables;
 use layout::visible;

@@ -1,5 +1,5 @@
 // Not for callers: numbers in a file, unsigned and little-endian, read at any position; a byte past the end reads as 0.
-// Relies on the definitions of `model`. Called by `layout` and `packed`.
+// Relies on the definitions of `model`. Called by `layout`, `entries` and `unpacking`.
 ghost use mathlib.Core.Path.{_≡_};
 ghost use Rattle.model.specs.Bytes.{byteAt, u16At, u32At};
 

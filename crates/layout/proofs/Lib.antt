@@ -1,3 +1,1 @@
 pub mod Where
-pub mod First
-pub mod Sound

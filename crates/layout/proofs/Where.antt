@@ -1,12 +1,15 @@
--- Where rows and tables stand, what the climb to the root counts, and the sets of the tables from one on.
+-- That a row's place fits, what the climb to the root counts, and the sets of the tables from one on.
 use Prim.Native.Nat.{ℕ, zero, suc, _+_, _-_, _*_, _^_, _≤_, _<_}
 use mathlib.Core.Path.{_≡_, refl, ap, _∙_}
 use mathlib.Core.List.{List}
-use native.Mathlib.Nat.{mul-le-mul, le-of-lt, add-mul}
+use native.Mathlib.Nat.{mul-le-mul, le-of-lt}
 use native.Mathlib.Omega.{arith}
+use lib.Pow.{pow-mono}
+use Rattle.columns.specs.Bound.{columnBound}
 use Rattle.columns.proofs.Test.{ifEq-yes, ifEq-no}
-use Rattle.model.specs.Catalogue.{columns, parent, rowAt, tableEnd, visible, visibleIn, setsFrom}
-use Rattle.model.specs.Check.{startOf}
+use Rattle.model.specs.Catalogue.{tables, columns, parent, visible, visibleIn, setsFrom}
+use Rattle.model.specs.Check.{Accepted}
+use Rattle.model.proofs.Check.{accepted-visible}
 
 -- a row's distance from the first fits
 pub product-small : (k c : ℕ) → k < 2 ^ 32 → c < 2 ^ 16 → k * (2 + 4 * c) ≤ 2 ^ 32 * (2 + 4 * 2 ^ 16)
@@ -33,24 +36,6 @@ unfolding visibleIn
 climb-over b zero i e = refl
 climb-over b (suc n) i e = omega arith
 
--- the next row starts a row's width further on
-pub next-row : (b : List ℕ) (i k : ℕ) → rowAt b i (k + 1) ≡ rowAt b i k + (2 + 4 * columns b i)
-unfolding rowAt
-next-row b i k = omega (arith, add-mul k 1 (2 + 4 * columns b i))
-
--- where a table must start
-pub start-first : (b : List ℕ) (i : ℕ) → i ≡ 0 → 0 ≡ startOf b i
-unfolding startOf
-start-first b zero e = refl
-start-first b (suc i) e = omega arith
-
-pub start-after : (b : List ℕ) (i : ℕ) → (i ≡ 0 → ⊥) → tableEnd b (i - 1) ≡ startOf b i
-unfolding startOf
-start-after b zero n = absurd (n refl)
-start-after b (suc i) n =
-    let one-less : suc i - 1 ≡ i = omega arith in
-    ap (λ (j : ℕ). tableEnd b j) one-less
-
 -- the sets of the targets from i on, n targets in all
 sets-first : (b : List ℕ) (n i : ℕ) → 0 < n → setsFrom b n i ≡ 2 ^ visible b i + setsFrom b (n - 1) (i + 1)
 unfolding setsFrom
@@ -72,3 +57,7 @@ unfolding setsFrom
 sets-over b n i h =
     let p : n - i ≡ 0 = omega arith in
     ap (λ (x : ℕ). setsFrom b x i) p
+
+-- a target has as many sets as the bound on columns allows, at most
+pub accepted-sets : (b : List ℕ) → Accepted b → (i : ℕ) → i < tables b → 2 ^ visible b i ≤ 2 ^ columnBound
+accepted-sets b e i h = pow-mono (accepted-visible b e i h)

@@ -1,6 +1,6 @@
 // Not for callers: lent memory. `zero_words` is what every answer does to the work words; proofs/Lent.antt has the laws for walks by hand over a
 // lent slice of records, which the borrow checker does not cover.
-// Relies on nothing. Called by `dependency` and `listing`; the proofs of `listing`, `packed` and `host` cite the laws.
+// Relies on nothing. Called by `dependency` and `steps`; the proofs of `listing`, `packed` and `host` cite the laws.
 ghost use mathlib.Core.Path.{_≡_};
 ghost use lib.ListN.{length, replicate};
 

@@ -94,7 +94,7 @@ fn first_page(file: &[u8], out: &mut [u8], work: &mut [u32]) -> Page
             last: 0,
         };
     }
-    let code = layout::check_code(file);
+    let code = grounds::check_code(file);
     if code != 0 {
         let len = put_refused(out, code);
         return Page {

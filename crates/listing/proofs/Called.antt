@@ -30,16 +30,16 @@ use denote.Triple.Spec.{tripleOf}
 use denote.Triple.Statement.{Contract}
 use denote.Triple.Clauses.{ensured, lasts}
 use denote.Triple.Walked.{says}
-use Rattle.listing.specs.declared.Walk.{Walk}
-use Rattle.listing.specs.declared.Stepped.{Stepped}
-use Rattle.listing.specs.Meaning.{Good}
-use Rattle.listing.specs.Steps.{Began, Went}
-use Rattle.listing.proofs.Walk as K
-use Rattle.listing.proofs.Walk.Laws as K′
-use Rattle.listing.proofs.Stepped as S
-use Rattle.listing.proofs.Stepped.Laws as S′
-use Rattle.listing.proofs.begin as begin
-use Rattle.listing.proofs.step as step
+use Rattle.walk.specs.declared.Walk.{Walk}
+use Rattle.steps.specs.declared.Stepped.{Stepped}
+use Rattle.walk.specs.Meaning.{Good}
+use Rattle.steps.specs.Steps.{Began, Went}
+use Rattle.walk.proofs.Walk as K
+use Rattle.walk.proofs.Walk.Laws as K′
+use Rattle.steps.proofs.Stepped as S
+use Rattle.steps.proofs.Stepped.Laws as S′
+use Rattle.steps.proofs.begin as begin
+use Rattle.steps.proofs.step as step
 use Rattle.lent.proofs.Lent.{ref}
 
 -- the machine values of a walk and of a step's answer

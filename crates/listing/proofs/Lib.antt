@@ -1,9 +1,6 @@
 pub mod Lists
 pub mod Called
 pub mod Steps
-pub mod Stands
-pub mod Walks
-pub mod Begins
 pub mod Local
 pub mod ByValue
 pub mod WholeRun

@@ -1,29 +1,23 @@
 -- The walk of `list`, over plain values: where it stands before each turn, what a turn that puts an entry does to it, and what it
--- shows when nothing is left. It looks into no definition of specs/Meaning.antt, so a change there leaves it as it is.
+-- shows when nothing is left. It looks into no definition of specs/Meaning.antt of `walk`, so a change there leaves it as it is.
 use Prim.Native.Nat.{ℕ, zero, suc, _+_, _-_, _≤_, _<_}
 use native.Mathlib.Omega.{arith}
 use mathlib.Core.Path.{_≡_, refl, sym, _∙_, ap, subst}
 use mathlib.Core.List.{List, [], _∷_, _++_, append-nil, append-assoc}
-use lib.ListN.{length, replicate, drop, set, length-append, length-drop}
+use lib.ListN.{length, drop, set, length-append, length-drop}
 use Rattle.columns.proofs.Test.{ifEq-yes, ifEq-no}
-use Rattle.model.specs.Calls.{runAfter, workAfter}
+use Rattle.model.specs.Calls.{runAfter}
 use Rattle.model.specs.Reply.{replyOf, listReply}
 use Rattle.model.specs.declared.Entry.{Entry}
 use Rattle.model.specs.declared.ListAnswer.{ListAnswer}
-use Rattle.listing.specs.declared.Walk.{Walk}
-use Rattle.listing.specs.declared.Stepped.{Stepped}
-use Rattle.listing.specs.declared.Stepped.the-variants.{Put, Done}
-use Rattle.listing.specs.Meaning.{code as codeOf, Good}
-use Rattle.listing.specs.Steps.{due, toPut, replyTo, Kept, Moved, Begins, Went, whole, values, Listed, seen}
+use Rattle.walk.specs.declared.Walk.{Walk}
+use Rattle.steps.specs.declared.Stepped.{Stepped}
+use Rattle.steps.specs.declared.Stepped.the-variants.{Put, Done}
+use Rattle.walk.specs.Meaning.{code as codeOf, Good}
+use Rattle.steps.specs.Steps.{due, toPut, replyTo, Kept, Begins, Went, whole, values}
+use Rattle.listing.specs.Steps.{Listed, seen}
+use Rattle.steps.proofs.Stepping.{kept-after}
 use Rattle.listing.proofs.Lists.{set-next}
-
--- words that a step left are as they must be since the call began
-pub kept-after : (cat : List ℕ) (code : ℕ) (words mid : List ℕ) (s : Stepped) (now : List ℕ) → code ≡ 0
-    → length mid ≡ length words
-    → Moved cat mid s now → Kept cat code words s now
-unfolding workAfter
-kept-after cat code words mid (Put e w) now z l m = (z, m)
-kept-after cat code words mid (Done a) now z l m = m ∙ ap (λ (k : ℕ). replicate k 0) l ∙ sym (ifEq-yes _ z)
 
 module _ (cat : List ℕ) (code : ℕ) (es : List Entry) (vs : List ℕ) (run : List Entry) (words : List ℕ) where
   -- where the walk stands: what comes next, what is put, and the words

@@ -11,8 +11,8 @@ use Rattle.model.specs.Entry.{entry}
 use Rattle.model.specs.declared.Entry.{Entry}
 use Rattle.model.specs.declared.ListAnswer.{ListAnswer}
 use Rattle.model.proofs.Stops.{written-fits}
-use Rattle.listing.specs.Meaning.{code}
-use Rattle.listing.specs.Steps.{whole}
+use Rattle.walk.specs.Meaning.{code}
+use Rattle.steps.specs.Steps.{whole}
 use Rattle.listing.specs.Filled.{runBound, cap, FilledBy}
 use Rattle.listing.proofs.ByValue.{fresh, rest, run-parts}
 

@@ -1,118 +1,15 @@
-// The listing call: entries are put into a lent run of records, one after the other, as a covered step says.
-// `begin` and `step` decide everything, keep the work words and look at no record; `list` stores what they say and counts.
-// Relies on `rights` for the listed rights of one set and on `layout` for the check's grounds. Called by hosts and programs.
-mod locate;
-mod onward;
-mod put;
-
+// The listing call: entries are put into a lent run of records, one after the other, as `steps` says: `list` stores and counts.
+// Relies on `steps` for everything else. Called by hosts and programs.
 ghost use mathlib.Core.Path.{_≡_};
 ghost use Rattle.model.specs.Reply.{listReply};
 ghost use Rattle.model.specs.List.{ListMeaning};
-ghost use Rattle.listing.specs.Meaning.{Good};
-ghost use Rattle.listing.specs.Steps.{Began, Went, seen};
+ghost use Rattle.listing.specs.Steps.{seen};
 ghost use Rattle.listing.specs.Filled.{cap, FilledBy};
-use layout::check_code;
-use layout::refusal;
-use layout::sets;
-use lent::zero_words;
-use locate::first;
 use model::Entry;
 use model::ListAnswer;
-use model::Refusal;
-use onward::onward;
-use onward::pass;
-use put::put;
-
-// Where a call stands: the set that it passed last, with how many members its target has and how the work words are used for that target;
-// the place after it, the budget and the room that are left from there on, how many sets are passed and how many entries they have; and the
-// rights of the set that are still to be put.
-pub struct Walk {
-    pub target: u32,
-    pub left: u32,
-    pub members: u32,
-    pub mode: u32,
-    pub place: u32,
-    pub budget: u32,
-    pub room: usize,
-    pub passed: u32,
-    pub count: u32,
-    pub pending: u32,
-}
-
-// What comes next: an entry to put and the walk after it, or the answer.
-pub enum Stepped {
-    Put(Entry, Walk),
-    Done(ListAnswer),
-}
-
-// A walk at the next set, or none.
-pub enum Reached {
-    At(Walk),
-    Stop,
-}
-
-// One step: the next entry, or the answer.
-fn step(cat: &[u8], w: Walk, work: &mut [u32]) -> Stepped
-    requires { ⌜ Good (now cat) w (now work) ⌝ }
-    ensures { λ r. ⌜ Went (now (cat .entry)) w (now (work .entry)) r (now (work .exit)) ⌝ }
-{
-    let mut v = w;
-    while v.pending == 0 {
-        match onward(cat, v, work) {
-            Reached::At(next) => v = next,
-            Reached::Stop => {
-                zero_words(work);
-                return Stepped::Done(ListAnswer::Listed {
-                    place: v.place,
-                    passed: v.passed,
-                    count: v.count,
-                });
-            }
-        }
-    }
-    put(v)
-}
-
-// The first step of a call: a refusal, the first entry, or the answer.
-fn begin(cat: &[u8], place: u32, budget: u32, room: usize, work: &mut [u32]) -> Stepped
-    ensures { λ r. ⌜ Began (now (cat .entry)) place budget room (now (work .entry)) r (now (work .exit)) ⌝ }
-{
-    let code = check_code(cat);
-    if code != 0 {
-        return Stepped::Done(ListAnswer::Refused(refusal(code)));
-    }
-    if work.len() < model::WORK_BOUND {
-        return Stepped::Done(ListAnswer::Refused(Refusal::TooFewWords));
-    }
-    let last = sets(cat);
-    if last < place {
-        return Stepped::Done(ListAnswer::Refused(Refusal::PastTheEnd));
-    }
-    if budget == 0 {
-        zero_words(work);
-        return Stepped::Done(ListAnswer::Listed {
-            place: place,
-            passed: 0,
-            count: 0,
-        });
-    }
-    if place == last {
-        zero_words(work);
-        return Stepped::Done(ListAnswer::Listed {
-            place: place,
-            passed: 0,
-            count: 0,
-        });
-    }
-    let w = first(cat, place, budget, room, work);
-    match pass(cat, w, work) {
-        Reached::At(v) => step(cat, v, work),
-        Reached::Stop => {
-            zero_words(work);
-            Stepped::Done(ListAnswer::Refused(Refusal::RunTooShort))
-        }
-    }
-}
+use steps::Stepped;
+use steps::begin;
+use steps::step;
 
 // Puts the entries of a call into the run, one after the other.
 pub fn list(cat: &[u8], place: u32, budget: u32, run: &mut [Entry], work: &mut [u32]) -> ListAnswer

@@ -30,12 +30,12 @@ use denote.Triple.Walked.{says}
 use Rattle.model.specs.declared.Entry.{Entry}
 use Rattle.model.proofs.Entry as R
 use Rattle.model.proofs.Entry.Laws as R′
-use Rattle.packed.specs.declared.Packing.{Packing}
-use Rattle.packed.specs.Packing.{Started, Ready, Stepped}
-use Rattle.packed.proofs.Packing as P
-use Rattle.packed.proofs.Packing.Laws as P′
-use Rattle.packed.proofs.first_pass as first-pass
-use Rattle.packed.proofs.step as step
+use Rattle.packing.specs.declared.Packing.{Packing}
+use Rattle.packing.specs.Packing.{Started, Ready, Stepped}
+use Rattle.packing.proofs.Packing as P
+use Rattle.packing.proofs.Packing.Laws as P′
+use Rattle.packing.proofs.first_pass as first-pass
+use Rattle.packing.proofs.step as step
 use Rattle.lent.proofs.Lent.{ref}
 
 -- the machine values of a state and of an entry

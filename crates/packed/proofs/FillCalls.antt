@@ -31,12 +31,12 @@ use Rattle.model.specs.Packed.{entryAt}
 use Rattle.model.specs.declared.Entry.{Entry}
 use Rattle.model.proofs.Entry as R
 use Rattle.model.proofs.Entry.Laws as R′
-use Rattle.packed.specs.declared.fill.Plan.{Plan}
+use Rattle.unpacking.specs.declared.Plan.{Plan}
 use Rattle.packed.specs.Filling.{Planned}
-use Rattle.packed.proofs.fill.Plan as P
-use Rattle.packed.proofs.fill.Plan.Laws as P′
+use Rattle.unpacking.proofs.Plan as P
+use Rattle.unpacking.proofs.Plan.Laws as P′
 use Rattle.packed.proofs.fill.planned as planned
-use Rattle.packed.proofs.entry_from as entry-from
+use Rattle.entries.proofs.entry_from as entry-from
 use Rattle.packed.proofs.Called.{entryVals}
 
 -- the machine values of a plan and of an entry

@@ -1,15 +1,9 @@
-pub mod Grounds
-pub mod Bytes
 pub mod Order
 pub mod Trailer
-pub mod Entries
 pub mod Round
-pub mod Checks
 pub mod Opening
 pub mod Reading
 pub mod Filling
-pub mod Writes
-pub mod Passes
 pub mod Held
 pub mod Rest
 pub mod Called

@@ -12,18 +12,9 @@ use Rattle.columns.proofs.Test.{ifEq-yes, ifEq-no, is-if-eq, is-if-ne, is-if-lt
 use Rattle.model.specs.Reply.{Reply, refused, answered, replyOf}
 use Rattle.model.specs.Packed.{entriesFrom, entriesIn, countIn, distanceIn, listCode, entriesCode, readCode, openMeaning}
 use Rattle.model.proofs.Grounds.{orElse-left}
-use Rattle.packed.specs.Verdict.{badUnless}
-use Rattle.packed.proofs.Grounds.{else-first, else-second}
+use Rattle.entries.specs.Verdict.{badUnless}
+use Rattle.entries.proofs.Grounds.{else-first, else-second, reply-refused, reply-answered}
 use Rattle.packed.proofs.Trailer.{Listed, listed, lists}
-
--- a reply by its code
-pub reply-refused : {n code : ℕ} (values : List ℕ) → n ≡ code → (n ≡ 0 → ⊥) → refused n ≡ replyOf code values
-unfolding replyOf
-reply-refused values e z = is-if-ne _ (λ y. z (e ∙ y)) (ap refused e)
-
-pub reply-answered : {code : ℕ} (values : List ℕ) → code ≡ 0 → answered values ≡ replyOf code values
-unfolding replyOf
-reply-answered values e = is-if-eq _ e refl
 
 -- 14
 no-list : (b : List ℕ) → 14 ≡ listCode b → refused 14 ≡ openMeaning b

@@ -15,8 +15,8 @@ use Rattle.model.specs.Entry.{earlier, thenBelow}
 use Rattle.model.specs.Refusal.{number, orElse}
 use Rattle.model.specs.Packed.{entryCode, laterCode, restCode, entriesCode}
 use Rattle.model.specs.declared.Entry.{Entry}
-use Rattle.packed.specs.Small.{Small}
-use Rattle.packed.proofs.Grounds.{no-else, no-le, eq-or, picked}
+use Rattle.entries.specs.Small.{Small}
+use Rattle.entries.proofs.Grounds.{no-else, no-le, eq-or, picked}
 
 -- what an entry without a ground has
 pub record Fine (e : Entry) : Type 0 where

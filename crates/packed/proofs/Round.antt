@@ -8,13 +8,13 @@ use lib.Seq.{take-append-seam, drop-length}
 use Rattle.model.specs.Bytes.{u32At, bytes4}
 use Rattle.model.specs.Packed.{packed, entriesBytes, entriesFrom, entriesIn, countIn, distanceIn, frontOf, listCode, readCode, entriesCode}
 use Rattle.model.specs.declared.Entry.{Entry}
-use Rattle.packed.specs.Small.{Small, Bytes}
+use Rattle.entries.specs.Small.{Small, Bytes}
 use Rattle.packed.specs.Round.{ReadsBack, PacksBack}
-use Rattle.packed.proofs.Grounds.{no-else, else-second}
-use Rattle.packed.proofs.Bytes.{bytes4-of-u32, drop-four}
+use Rattle.entries.proofs.Grounds.{no-else, else-second}
+use Rattle.entries.proofs.Bytes.{bytes4-of-u32, drop-four}
 use Rattle.packed.proofs.Order.{order-bound}
 use Rattle.packed.proofs.Trailer.{length-trailer, count-of, distance-of, listed, lists}
-use Rattle.packed.proofs.Entries.{entries-after, entries-back, entries-forth, length-entries, length-from}
+use Rattle.entries.proofs.Entries.{entries-after, entries-back, entries-forth, length-entries, length-from}
 
 -- the parts of a packed list behind a front
 split : (front : List ℕ) (es : List Entry)

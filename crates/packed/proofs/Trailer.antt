@@ -8,8 +8,8 @@ use Rattle.columns.specs.Test.{ifEq, ifLt}
 use Rattle.columns.proofs.Test.{ifEq-yes, ifLt-no}
 use Rattle.model.specs.Bytes.{u32At, bytes4}
 use Rattle.model.specs.Packed.{countIn, distanceIn, distanceOf, listCode}
-use Rattle.packed.proofs.Grounds.{no-lt, no-ne}
-use Rattle.packed.proofs.Bytes.{u32-after, u32-of-bytes4}
+use Rattle.entries.proofs.Grounds.{no-lt, no-ne}
+use Rattle.entries.proofs.Bytes.{u32-after, u32-of-bytes4}
 
 pub length-trailer : (xs : List ℕ) (k d : ℕ) → length (xs ++ (bytes4 k ++ bytes4 d)) ≡ length xs + 8
 unfolding bytes4

@@ -2,18 +2,10 @@
 use Prim.Native.Nat.{ℕ, _+_, _*_, _≤_}
 use mathlib.Core.Path.{_≡_}
 use mathlib.Core.List.{List}
-use lib.ListN.{length, take, drop}
+use lib.ListN.{length}
 use Rattle.model.specs.Reply.{entriesReply}
 use Rattle.model.specs.Packed.{entriesFrom, readFrom, readMeaning}
-use Rattle.model.specs.declared.EntriesAnswer.the-variants.{Read}
-use Rattle.packed.specs.declared.fill.Plan.{Plan}
-
--- of k entries from byte p on, those from an index on that there is room for
-pub record Part (k p from room : ℕ) (r : Plan) : Type 0 where
-  pub answer : r .answer ≡ Read (r .count)
-  pub entries : (b : List ℕ) → take room (drop from (entriesFrom b k p)) ≡ entriesFrom b (r .count) (r .first)
-  pub fits : r .count ≤ room
-  pub inside : r .first + 4 * r .count ≤ p + 4 * k
+use Rattle.unpacking.specs.declared.Plan.{Plan}
 
 -- what is read of a file, and the answer
 pub record Planned (b : List ℕ) (from room : ℕ) (r : Plan) : Type 0 where

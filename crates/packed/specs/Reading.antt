@@ -1,35 +1,15 @@
--- A reading of a packed list goes entry by entry over the lent file ("Packed list"): what may be read by what `open` answered, and the readers
--- that a reading comes to.
-use Prim.Native.Nat.{ℕ, zero, suc, _+_, _≤_}
+-- A reading of a packed list goes entry by entry over the lent file ("Packed list"): the readers that a reading comes to, and what they answer.
+use Prim.Native.Nat.{ℕ, zero, suc, _≤_}
 use mathlib.Core.Path.{_≡_}
-use mathlib.Core.List.{List, []}
-use mathlib.Core.Bool.{Bool, true, false}
+use mathlib.Core.List.{List}
 use lib.ListN.{length}
 use denote.Ref.{RefT, now}
-use Rattle.columns.specs.Test.{ifLt, pick}
-use Rattle.model.specs.Packed.{entriesIn, entriesRead, frontOf, frontRead, openMeaning, readAt}
+use Rattle.model.specs.Packed.{entriesRead, frontRead, openMeaning, readAt}
 use Rattle.model.specs.Reply.{openReply}
-use Rattle.model.specs.declared.Entry.{Entry}
-use Rattle.model.specs.declared.OpenAnswer.{OpenAnswer}
-use Rattle.model.specs.declared.OpenAnswer.the-variants.{Opened, Refused}
 use Rattle.model.specs.declared.ReadAnswer.{ReadAnswer}
 use Rattle.model.specs.declared.ReadAnswer.the-variants.{End}
+use Rattle.unpacking.specs.Reading.{entriesBy, frontBy, afterIn}
 use Rattle.packed.specs.declared.Reader.{Reader}
-
-abbrev pub isOpen : OpenAnswer → Bool
-isOpen (Opened k n) = true
-isOpen (Refused r) = false
-
--- the entries of a file by what `open` answered, and the part in front; none where it was a refusal
-unfoldable pub entriesBy : OpenAnswer → List ℕ → List Entry
-entriesBy a b = pick (isOpen a) (entriesIn b) []
-
-unfoldable pub frontBy : OpenAnswer → List ℕ → List ℕ
-frontBy a b = pick (isOpen a) (frontOf b) []
-
--- the position after i while an entry is there, else i
-unfoldable pub afterIn : List Entry → ℕ → ℕ
-afterIn es i = ifLt i (length es) (i + 1) i
 
 -- r is a reader that begins on the file f
 pub record Begun (f : RefT (List ℕ)) (r : Reader) : Type 0 where

@@ -1,51 +1,17 @@
 // Reading from an index on into a lent run of records: `planned` decides everything and looks at no record, `read` stores
 // the entries. Called by `host`.
-ghost use Prim.Native.Nat.{_+_, _*_, _<_, _^_};
 ghost use mathlib.Core.Path.{_≡_};
 ghost use lib.ListN.{length};
 ghost use Rattle.model.specs.Reply.{entriesReply};
 ghost use Rattle.model.specs.Packed.{readMeaning, runRead};
-ghost use Rattle.packed.specs.Filling.{Part, Planned};
-use crate::entry_from;
+ghost use Rattle.packed.specs.Filling.{Planned};
 use crate::open;
+use entries::entry_from;
 use model::EntriesAnswer;
 use model::Entry;
 use model::OpenAnswer;
-
-// What a call reads: how many entries, where the first of them begins, and the answer.
-pub struct Plan {
-    pub count: usize,
-    pub first: usize,
-    pub answer: EntriesAnswer,
-}
-
-// Of k entries that begin at a position: those from an index on, as many as there is room for.
-fn part(k: usize, first: usize, from: usize, room: usize) -> Plan
-    requires { ⌜ first + 4 * k < 2 ^ 64 ⌝ }
-    ensures { λ r. ⌜ Part k first from room r ⌝ }
-{
-    if k <= from {
-        return Plan {
-            count: 0,
-            first: first,
-            answer: EntriesAnswer::Read { count: 0 },
-        };
-    }
-    let at = first + 4 * from;
-    let count = k - from;
-    if room < count {
-        return Plan {
-            count: room,
-            first: at,
-            answer: EntriesAnswer::Read { count: room },
-        };
-    }
-    Plan {
-        count: count,
-        first: at,
-        answer: EntriesAnswer::Read { count: count },
-    }
-}
+use unpacking::Plan;
+use unpacking::part;
 
 // 14, then 15 over all entries; then the part to read. A refusal reads nothing.
 pub fn planned(file: &[u8], from: usize, room: usize) -> Plan

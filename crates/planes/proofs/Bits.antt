@@ -1,22 +1,18 @@
--- Laws of planes' bits: a left side as a word's index and a position in it, for bits and for 'or larger', the words
--- with a bit set, and the masks of the five low columns.
+-- Laws of planes' bits: a left side as a word's index and a position in it, for bits and for 'or larger', and the masks
+-- of the five low columns.
 use Prim.Native.Nat.{ℕ, zero, suc, _+_, _-_, _*_, _/_, _%_, _^_, _≤_, _<_}
 use mathlib.Core.Path.{_≡_, sym, ap, ap₂, subst, _∙_}
 use mathlib.Core.List.{List}
-use native.Mathlib.Decide.{ℕ-discrete, decLt}
+use native.Mathlib.Decide.{decLt}
 use native.Mathlib.Omega.{arith}
-use lib.Bits.{bitOr}
 use lib.Dec.{T, eqb}
-use lib.ListN.{length}
 use lib.Pow.{pow-add, pow-lt, pow-mono}
-use lib.Seq.{getD-set-same, getD-set-other}
 use Rattle.columns.specs.Set.{bit}
 use Rattle.columns.proofs.Bits.{bit-above, bit-below, bit-past}
 use Rattle.model.specs.View.{allBelow}
 use Rattle.model.proofs.Truth.{eqb-is, allBelow-is}
 use Rattle.table.specs.Words.{word, Above}
-use Rattle.table.proofs.Bits.{bit-with-same, bit-with-other}
-use Rattle.planes.specs.Bits.{planeBit, marked, clearOf}
+use Rattle.planes.specs.Bits.{planeBit, clearOf}
 
 -- a left side below 2 ^ n stands in one of the first 2 ^ (n - 5) words
 pub power-words : (n : ℕ) → 5 ≤ n → 2 ^ n ≡ 2 ^ (n - 5) * 32
@@ -70,29 +66,6 @@ planeBit-parts ws t s l =
     let q : (t * 32 + s) / 32 ≡ t = omega arith in
     let r : (t * 32 + s) % 32 ≡ s = omega arith in
     ap₂ (λ (i j : ℕ). bit (word ws i) j) q r
-
--- the words with a bit set
-pub marked-same : (ws : List ℕ) (s : ℕ) → s / 32 < length ws → planeBit (marked ws s) s ≡ 1
-marked-same ws s h =
-    ap (λ (w : ℕ). bit w (s % 32)) (getD-set-same ws (s / 32) (bitOr (word ws (s / 32)) (2 ^ (s % 32))) 0 h)
-    ∙ bit-with-same (word ws (s / 32)) (s % 32)
-
-pub marked-other : (ws : List ℕ) (s t : ℕ) → s / 32 < length ws → (t ≡ s → ⊥) → planeBit (marked ws s) t ≡ planeBit ws t
-marked-other ws s t h n = at (ℕ-discrete (t / 32) (s / 32))
-  where
-    new : ℕ
-    new = bitOr (word ws (s / 32)) (2 ^ (s % 32))
-
-    apart : t / 32 ≡ s / 32 → t % 32 ≡ s % 32 → ⊥
-    apart q r = n (omega arith)
-
-    at : Dec (t / 32 ≡ s / 32) → planeBit (marked ws s) t ≡ planeBit ws t
-    at (yes e) =
-        ap (λ (i : ℕ). bit (word (marked ws s) i) (t % 32)) e
-        ∙ ap (λ (w : ℕ). bit w (t % 32)) (getD-set-same ws (s / 32) new 0 h)
-        ∙ bit-with-other (word ws (s / 32)) (t % 32) (s % 32) (apart e)
-        ∙ ap (λ (i : ℕ). bit (word ws i) (t % 32)) (sym e)
-    at (no m) = ap (λ (w : ℕ). bit w (t % 32)) (getD-set-other ws (s / 32) (t / 32) new 0 m)
 
 -- the masks of the five low columns
 clear-at : (k : ℕ) → T (allBelow 32 (λ j. eqb (bit (clearOf k) j) (1 - bit j k))) → (j : ℕ) → j < 32

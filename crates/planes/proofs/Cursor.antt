@@ -1,6 +1,6 @@
 -- The rights of a left side from the cursor's pair, or from a new block: they are the listed ones, and the words stay
 -- ready.
-use Prim.Native.Nat.{ℕ, suc, _+_, _*_, _/_, _^_, _≤_, _<_}
+use Prim.Native.Nat.{ℕ, suc, _+_, _*_, _^_, _≤_, _<_}
 use mathlib.Core.Path.{_≡_, sym, ap, subst, _∙_}
 use mathlib.Core.Bool.{true}
 use mathlib.Core.List.{List}
@@ -12,10 +12,8 @@ use Rattle.model.specs.View.{View}
 use Rattle.model.proofs.Truth.{true-is, eqb-is}
 use Rattle.table.specs.Words.{word}
 use Rattle.table.specs.Broken.{rightsMask}
-use Rattle.planes.specs.Bits.{marked}
 use Rattle.planes.specs.Plane.{Cached}
 use Rattle.planes.specs.Cache.{seedWords, pairsAt, leftAt, Roomy, Sown, Ready, Block, AtCursor, RightsFrom}
-use Rattle.planes.proofs.Bits.{power-words}
 use Rattle.planes.proofs.Answers.{sown-kept}
 
 -- words whose count is 0 are ready once they hold the seeds
@@ -24,14 +22,6 @@ roomy-begun n ws h e = record { one = h; count = omega arith }
 
 pub ready-begun : (v : View) (n own : ℕ) (ws : List ℕ) → Sown v n ws → word ws (seedWords n + 1) ≡ 0 → Ready v n own ws
 ready-begun v n own ws s e = record { sown = s; cached = λ j l. absurd (omega arith) }
-
--- marking a left side changes nothing behind the seeds
-pub marked-behind : (n s i : ℕ) (ws : List ℕ) → 5 ≤ n → s < 2 ^ n → seedWords n ≤ i → word (marked ws s) i ≡ word ws i
-marked-behind n s i ws h l b = getD-set-other ws (s / 32) i _ 0 (λ e. omega (arith, power-words n h))
-
-pub roomy-kept : (n : ℕ) (before after : List ℕ) → length after ≡ length before
-    → word after (seedWords n + 1) ≡ word before (seedWords n + 1) → Roomy n before → Roomy n after
-roomy-kept n before after len e r = record { one = omega (arith, r .one); count = omega (arith, r .count) }
 
 -- the cursor's pair is inside, and its left side is compared
 pub cursor-inside : (n m : ℕ) (ws : List ℕ) → m ≡ seedWords n → Roomy n ws → word ws m < word ws (m + 1)

@@ -1,25 +1,19 @@
--- Planes: one bit for each left side, 32 of them in a word. What marking, selecting and closing do to the bits, and
+-- Planes: one bit for each left side, 32 of them in a word. What selecting and closing do to the bits, and
 -- what is read off a plane. Nothing here knows of a catalogue.
-use Prim.Native.Nat.{ℕ, zero, suc, _+_, _-_, _*_, _/_, _%_, _^_, _<_}
+use Prim.Native.Nat.{ℕ, _+_, _-_, _*_, _/_, _%_, _^_, _<_}
 use mathlib.Core.Path.{_≡_}
+use mathlib.Core.Bool.{Bool}
 use mathlib.Core.List.{List}
-use lib.Bits.{bitOr}
-use lib.ListN.{set}
-use Rattle.columns.specs.Set.{bit, withoutOf}
+use Rattle.columns.specs.Set.{bit, setBelow, withoutOf}
 use Rattle.table.specs.Words.{word, Above}
 
 -- the bit of the left side x
 abbrev pub planeBit : List ℕ → ℕ → ℕ
 planeBit ws x = bit (word ws (x / 32)) (x % 32)
 
--- the words with the bit of s set
-abbrev pub marked : List ℕ → ℕ → List ℕ
-marked ws s = set ws (s / 32) (bitOr (word ws (s / 32)) (2 ^ (s % 32)))
-
--- the words with the bits of m left sides of a line set, one after the other, from place q on
-unfoldable pub markedFrom : List ℕ → List ℕ → ℕ → ℕ → List ℕ
-markedFrom line ws q zero = ws
-markedFrom line ws q (suc m) = markedFrom line (marked ws (word line q)) (suc q) m
+-- the word at i of the plane of a test: the bits of the 32 left sides that stand there
+abbrev pub planeWord : (ℕ → Bool) → ℕ → ℕ
+planeWord test i = setBelow 32 (λ j. test (i * 32 + j))
 
 -- the word with a 1 at each of the 32 positions whose bit k is 0, for k below 5
 abbrev pub clearOf : ℕ → ℕ

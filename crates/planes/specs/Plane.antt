@@ -7,17 +7,12 @@ use mathlib.Core.Bool.{false}
 use mathlib.Core.List.{List}
 use Rattle.model.specs.View.{View, holds}
 use Rattle.table.specs.Words.{word}
-use Rattle.table.specs.Broken.{rightAt, agreeSetOf, Pair, rightsMask}
+use Rattle.table.specs.Broken.{rightAt, Occurs, rightsMask}
 use Rattle.planes.specs.Bits.{planeBit}
 
--- the bits are those of the agree sets of some pairs of rows
-abbrev pub SeedsOf : View → (ℕ → ℕ → Type 0) → List ℕ → Type 0
-SeedsOf v P ws =
-    (s : ℕ) → s < 2 ^ v .members → (planeBit ws s ≡ 1) ↔ ((p : ℕ) × (q : ℕ) × P p q × (agreeSetOf v p q ≡ s))
-
--- the seeds: the agree sets of all pairs of rows
+-- the seeds: the bit of s is 1 exactly if s is the agree set of a pair of rows
 abbrev pub Seeds : View → List ℕ → Type 0
-Seeds v ws = SeedsOf v (Pair v) ws
+Seeds v ws = (s : ℕ) → s < 2 ^ v .members → (planeBit ws s ≡ 1) ↔ Occurs v s
 
 -- the plane of right a: the bit of x is 1 exactly if x does not give a
 abbrev pub Plane : View → ℕ → List ℕ → Type 0

@@ -1,13 +1,13 @@
 // Not for callers: planes of bits, for calls that are lent less than one word for each left side. The seeds are the agree
 // sets, a plane says for one right which left sides do not give it, and a cache holds the rights of the next left sides.
-// Relies on the definitions of `model` and `columns`, and on `table` for the closing. Called by `scan` and `rights`.
+// Relies on the definitions of `model` and `columns`, and on `table` for the closing. Called by `rights`; `scan` makes the seeds.
 ghost use Prim.Native.Nat.{_+_, _-_, _*_, _/_, _%_, _^_, _≤_, _<_};
 ghost use mathlib.Core.Path.{_≡_};
 ghost use mathlib.Core.Bool.{true};
 ghost use mathlib.Core.Logic.{_↔_};
 ghost use lib.ListN.{length};
 ghost use Rattle.columns.specs.Bound.{columnBound};
-ghost use Rattle.planes.specs.Bits.{planeBit, marked, clearOf, SelectedWord, ClosedWord, Filled, Narrow};
+ghost use Rattle.planes.specs.Bits.{planeBit, clearOf, SelectedWord, ClosedWord, Filled, Narrow};
 ghost use Rattle.planes.specs.Cache.{seedWords, pairsAt, Roomy, Room, Lefts, Added, AddedBelow, PairsBelow};
 ghost use Rattle.planes.specs.Cache.{Answered, Block, AtCursor, RightsFrom};
 use bits::power;
@@ -16,15 +16,6 @@ use columns::SetOrNone;
 
 // How many words a plane takes at the bound on columns.
 const PLANE: usize = 1 << (columns::COLUMN_BOUND - 5);
-
-// Sets the bit of s.
-pub fn mark(words: &mut [u32], s: u32)
-    requires { ⌜ s / 32 < length (now words) ⌝ }
-    ensures { λ r. ⌜ now (words .exit) ≡ marked (now (words .entry)) s ⌝ }
-{
-    let i = (s / 32) as usize;
-    words[i] = words[i] | power(s % 32);
-}
 
 // The word with a 1 at each position whose bit k is 0.
 fn clear(k: u32) -> u32

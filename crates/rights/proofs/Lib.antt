@@ -1,4 +1,3 @@
 pub mod Mask
 pub mod Own
-pub mod Passing
 pub mod Modes

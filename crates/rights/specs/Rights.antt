@@ -1,6 +1,6 @@
 -- The listed rights of one left side as a number, and the entries that such a number stands for. Where n columns are visible, bit a of the
 -- number stands for column a, and bit n for the row.
-use Prim.Native.Nat.{ℕ, zero, suc, _-_, _^_, _≤_, _<_}
+use Prim.Native.Nat.{ℕ, zero, suc, _+_, _-_, _^_, _≤_, _<_}
 use mathlib.Core.Path.{_≡_}
 use mathlib.Core.List.{List, [], _∷_}
 use mathlib.Core.Bool.{Bool, _&&_}
@@ -10,7 +10,7 @@ use lib.ListN.{length}
 use Rattle.columns.specs.Set.{bit}
 use Rattle.columns.specs.Test.{ifEq}
 use Rattle.model.specs.Catalogue.{visible, inherited}
-use Rattle.model.specs.View.{minimal}
+use Rattle.model.specs.View.{View, minimal}
 use Rattle.model.specs.Target.{view}
 use Rattle.model.specs.Entry.{entry}
 use Rattle.model.specs.declared.Entry.{Entry}
@@ -42,28 +42,30 @@ entriesOfMask t x n m = entriesIn t x n m (suc n) 0
 unfoldable pub lowest : ℕ → ℕ
 lowest m = trailingZeros 32 m
 
--- the work words hold the table of broken rights of target t, and the mode is the mask of its rights
-pub record Tabled (b : List ℕ) (t mode : ℕ) (words : List ℕ) : Type 0 where
-  pub fits : 2 ^ visible b t ≤ length words
-  pub table : Table (view b t) words
-  pub own : mode ≡ 2 ^ suc (visible b t) - 2 ^ inherited b t
+-- the rights of a target as a mask: its own columns and the row
+abbrev pub ownMask : List ℕ → ℕ → ℕ
+ownMask b t = 2 ^ suc (visible b t) - 2 ^ inherited b t
+
+-- the work words hold the table of broken rights of a view
+pub record Tabled (v : View) (words : List ℕ) : Type 0 where
+  pub fits : 2 ^ v .members ≤ length words
+  pub table : Table v words
+
+-- they hold its seeds and a cache of rights, for a mask of rights
+pub record Narrowed (v : View) (own : ℕ) (words : List ℕ) : Type 0 where
+  pub wide : 5 ≤ v .members
+  pub roomy : Roomy (v .members) words
+  pub cached : Cached v (v .members) own words
 
 -- from this mode on the work words hold seeds and a cache, and the mask of rights is added to it
 abbrev pub narrowMode : ℕ
 narrowMode = 2147483648
 
--- the work words hold the seeds of target t and a cache of rights, for the mask of its rights
-pub record Narrowed (b : List ℕ) (t own : ℕ) (words : List ℕ) : Type 0 where
-  pub wide : 5 ≤ visible b t
-  pub roomy : Roomy (visible b t) words
-  pub cached : Cached (view b t) (visible b t) own words
-  pub own-mask : own ≡ 2 ^ suc (visible b t) - 2 ^ inherited b t
+-- the work words are ready for a view and a mask of rights: a low mode is the mask and they hold the table, and in a high one they hold the seeds
+pub record ReadyFor (v : View) (own mode : ℕ) (words : List ℕ) : Type 0 where
+  pub tabled : mode < narrowMode → (mode ≡ own) × Tabled v words
+  pub narrowed : narrowMode ≤ mode → (mode ≡ narrowMode + own) × Narrowed v own words
 
--- the work words are as `prepare` and `rights` leave them for target t: in mode 0 they are not used, in a low mode they hold its table, and
--- in a high one its seeds. Callers carry it along and never look inside
-pub record ReadyIn (b : List ℕ) (t mode : ℕ) (words : List ℕ) : Type 0 where
-  pub tabled : (mode ≡ 0 → ⊥) → mode < narrowMode → Tabled b t mode words
-  pub narrowed : narrowMode ≤ mode → Narrowed b t (mode - narrowMode) words
-
+-- they are as `prepare` and `rights` leave them for target t. Callers carry it along and never look inside
 unfoldable pub Ready : List ℕ → ℕ → ℕ → List ℕ → Type 0
-Ready b t mode words = ReadyIn b t mode words
+Ready b t mode words = ReadyFor (view b t) (ownMask b t) mode words

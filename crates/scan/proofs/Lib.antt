@@ -1,5 +1,3 @@
-pub mod Put
 pub mod Lines
-pub mod Notes
-pub mod Scanning
-pub mod Sowing
+pub mod Seeing
+pub mod Writing

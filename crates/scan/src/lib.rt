@@ -1,11 +1,13 @@
-// Not for callers: the table of broken rights of a target, built from its rows. The visible columns are laid side by side, then each row's line
-// of agree sets with the rows after it is found column by column, and what each agree set breaks is noted; or, where fewer words are lent, the
-// agree sets alone.
-// Relies on `layout` and `agreement` for the columns and on `table` and `planes` for the words. Called by `rights`.
-mod lay;
+// Not for callers: the table of broken rights, or the seeds, of any view whose rows are laid as keys. For each row the line of its agree sets with the
+// rows after it is found by comparing keys, a byte for each agree set notes which of them occur, and the words are written from these bytes.
+// Relies on the definitions and laws of `leaders` for keys, and on `table` and `planes` for the words. Called by `rights`.
+mod broken;
 mod line;
 mod pairs;
 mod seeds;
 
-pub use pairs::build;
+pub use broken::build;
 pub use seeds::sow;
+
+// How many agree sets there are.
+const SETS: usize = 1 << columns::COLUMN_BOUND;

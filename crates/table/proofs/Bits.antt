@@ -2,16 +2,16 @@
 -- and of the mask of a test.
 use Prim.Native.Nat.{ℕ, zero, suc, _+_, _-_, _*_, _/_, _%_, _^_, _≤_, _<_, min, max}
 use mathlib.Core.Path.{_≡_, refl, sym, ap, _∙_}
-use mathlib.Core.Logic.{⊎-elim, _↔_}
+use mathlib.Core.Logic.{_↔_}
 use mathlib.Core.Bool.{Bool, true, false}
-use native.Mathlib.Nat.{one-mul, zero-mul, mul-mod-left, two-pow-succ, eq-or-lt-of-le, le-of-suc-le-suc}
+use native.Mathlib.Nat.{one-mul, mul-mod-left, two-pow-succ}
 use native.Mathlib.Decide.{decLt}
 use native.Mathlib.Omega.{arith}
 use lib.Arith.{bin-ind}
 use lib.Bits.{bitAnd, bitOr, bitXor, differ, or-step, xor-step, and-step, or-shr, xor-shr}
 use lib.Bits.{or-lt, or-add-and, and-le-r, and-self}
 use lib.Dec.{T}
-use lib.Pow.{pow-lt, shl-shr, high, low}
+use lib.Pow.{pow-lt, shl-shr}
 use Rattle.columns.specs.Set.{bit, withoutOf}
 use Rattle.columns.specs.Test.{pick}
 use Rattle.columns.proofs.SetBelow.{setBelow-lt, setBelow-bit}
@@ -142,7 +142,7 @@ pub rest-without : (x k : ℕ) → Lowest x k → bitAnd x (x - 1) ≡ withoutOf
 rest-without x k w = let e = w .rest in omega (arith, without-some x k (w .in-it))
 
 -- bit k of the mask is 1 exactly if k is below m and passes the test
-passes : (b : Bool) → (_≡_ {A = ℕ} (pick b 1 0) 1) ↔ T b
+pub passes : (b : Bool) → (_≡_ {A = ℕ} (pick b 1 0) 1) ↔ T b
 passes true = (λ e. tt, λ t. refl)
 passes false = (λ e. absurd (omega arith), λ t. absurd t)
 

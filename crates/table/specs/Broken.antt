@@ -1,18 +1,15 @@
 -- The table of broken rights of a target ("Agreement", and demand 2): which bits its words have after the scan over
 -- pairs of rows, what they say once closed, and the listed rights of one left side as a number. Bit a stands for
 -- column a, and the bit above the last column for the row.
-use Prim.Native.Nat.{ℕ, zero, suc, _-_, _^_, _≤_, _<_}
+use Prim.Native.Nat.{ℕ, suc, _-_, _^_, _≤_, _<_}
 use mathlib.Core.Path.{_≡_}
-use mathlib.Core.Logic.{_⊎_, _↔_}
+use mathlib.Core.Logic.{_↔_}
 use mathlib.Core.Bool.{false, _&&_}
 use mathlib.Core.List.{List}
-use lib.Bits.{bitOr}
-use lib.ListN.{set}
-use Rattle.columns.specs.Set.{bit}
+use Rattle.columns.specs.Set.{bit, setBelow}
 use Rattle.columns.specs.Test.{ifEq}
 use Rattle.model.specs.Bounds.{row}
 use Rattle.model.specs.View.{View, isIn, holds, minimal}
-use Rattle.columns.specs.Set.{setBelow}
 use Rattle.table.specs.Words.{word}
 
 -- the right side that bit a stands for, of n members
@@ -34,22 +31,17 @@ GivenBy v P ws =
     (s a : ℕ) → s < 2 ^ v .members → a ≤ v .members
     → (bit (word ws s) a ≡ 1) ↔ ((p : ℕ) × (q : ℕ) × P p q × Shows v s a p q)
 
--- the words with one more agree set noted, of n members: all bits up to that of the row, but for those of the set
-abbrev pub noted : ℕ → List ℕ → ℕ → List ℕ
-noted n ws s = set ws s (bitOr (word ws s) (2 ^ suc n - 1 - s))
-
--- the words with the agree sets at m places of a line noted, one after the other, from place q on
-unfoldable pub notedFrom : ℕ → List ℕ → List ℕ → ℕ → ℕ → List ℕ
-notedFrom n line ws q zero = ws
-notedFrom n line ws q (suc m) = notedFrom n line (noted n ws (word line q)) (suc q) m
-
 -- the pairs of different rows, the lower first
 abbrev pub Pair : View → ℕ → ℕ → Type 0
 Pair v p q = (p < q) × (q < v .rows)
 
--- of these, the pairs that a scan row by row has passed when it stands at (p, q)
-abbrev pub PairBefore : View → ℕ → ℕ → ℕ → ℕ → Type 0
-PairBefore v p q i j = Pair v i j × ((i < p) ⊎ ((i ≡ p) × (j < q)))
+-- an agree set occurs: it is that of some pair
+abbrev pub Occurs : View → ℕ → Type 0
+Occurs v s = (p : ℕ) × (q : ℕ) × Pair v p q × (agreeSetOf v p q ≡ s)
+
+-- what the agree set s breaks, of n members: all rights up to the row, but for those in the set
+abbrev pub brokenBy : ℕ → ℕ → ℕ
+brokenBy n s = 2 ^ suc n - 1 - s
 
 -- the words after the scan over all pairs of rows
 abbrev pub Scanned : View → List ℕ → Type 0

@@ -1,13 +1,11 @@
 -- Words, one for each left side: numbers by their bits, what closing the words over larger left sides means, and the
 -- rights that are read off them. Nothing here knows of a catalogue.
-use Prim.Native.Nat.{ℕ, zero, suc, _+_, _^_, _≤_, _<_}
+use Prim.Native.Nat.{ℕ, _^_, _≤_, _<_}
 use mathlib.Core.Path.{_≡_}
-use mathlib.Core.Bool.{Bool}
 use mathlib.Core.List.{List}
 use lib.ListN.{length, getD}
 use lib.Bits.{bitOr, bitAnd, bitXor}
 use Rattle.columns.specs.Set.{bit, withoutOf}
-use Rattle.columns.specs.Test.{pick}
 
 -- the word at x; past the end it is 0
 abbrev pub word : List ℕ → ℕ → ℕ

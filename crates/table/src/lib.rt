@@ -5,20 +5,10 @@
 ghost use Prim.Native.Nat.{ℕ, _^_, _≤_, _<_};
 ghost use mathlib.Core.Path.{_≡_};
 ghost use mathlib.Core.Logic.{_↔_};
-ghost use lib.ListN.{length, getD, set};
-ghost use lib.Bits.{bitOr};
+ghost use lib.ListN.{length};
 ghost use Rattle.columns.specs.Set.{bit};
-ghost use Rattle.table.specs.Words.{word, lackingOf, Joined, Closed, Read};
+ghost use Rattle.table.specs.Words.{lackingOf, Joined, Closed, Read};
 use bits::power;
-
-// Puts the bits of a mask into the word at s.
-pub fn note(words: &mut [u32], s: u32, mask: u32)
-    requires { ⌜ s < length (now words) ⌝ }
-    ensures { λ r. ⌜ now (words .exit) ≡ set (now (words .entry)) s (bitOr (word (now (words .entry)) s) mask) ⌝ }
-{
-    let i = s as usize;
-    words[i] = words[i] | mask;
-}
 
 // Joins one column: each word gets the bits of the word at its left side with column k.
 fn join_column(words: &mut [u32], n: u32, k: u32)
@@ -47,7 +37,7 @@ pub fn close(words: &mut [u32], n: u32)
 }
 
 // The bits of x that are not bits of y.
-fn lacking(x: u32, y: u32) -> u32
+pub fn lacking(x: u32, y: u32) -> u32
     ensures { λ r. ⌜ r ≡ lackingOf x y ⌝ }
 {
     x ^ (x & y)

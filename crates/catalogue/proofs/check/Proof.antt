@@ -5,7 +5,7 @@ use denote.Ref.{now}
 use Rattle.columns.proofs.Test.{is-if-eq, is-if-ne}
 use Rattle.model.specs.Reply.{refused, replyOf}
 use Rattle.model.specs.Check.{checkMeaning}
-use Rattle.layout.proofs.Sound.{check-code-le}
+use Rattle.grounds.proofs.Sound.{check-code-le}
 use borrow.Author.Needs.{needs}
 use Rattle.catalogue.proofs.check.Statement.{statement}
 use Rattle.catalogue.proofs.check.Tie as tie

@@ -1,10 +1,9 @@
 -- `dependency::ask` meets its contract.
-use mathlib.Core.Path.{subst}
+use mathlib.Core.Path.{sym, _∙_}
+use mathlib.Core.Bool.{true, false}
 use lib.ListN.{length}
 use denote.Ref.{now}
-use Rattle.model.specs.Target.{view}
-use Rattle.dependency.specs.Pairs.{FirstBreaking}
-use Rattle.dependency.proofs.Replies.{refused-number, question-posed, ask-refused, ask-holds, ask-breaks, words-kept, words-zeroed}
+use Rattle.dependency.proofs.Replies.{refused-number, question-posed, ask-refused, ask-told, words-kept, words-zeroed}
 use borrow.Author.Needs.{needs}
 use Rattle.dependency.proofs.ask.Statement.{statement}
 use Rattle.dependency.proofs.ask.Tie as tie
@@ -32,34 +31,25 @@ returns c =
 zero-words-requires : tie.Need-zero-words-requires
 zero-words-requires c κs = search needs
 
-breaking-pair-requires : tie.Need-breaking-pair-requires
-breaking-pair-requires c κs =
+holds-requires : tie.Need-holds-requires
+holds-requires c κs =
     let a = c .before .before .before .before .before .before .before .before .args in
     question-posed (now (a .cat)) (a .target) (a .left) (a .right) (length (now (a .work)))
     (c .before .before .before .before .before .question-code .ensures) (c .before .before .before .before .if1 .left)
-
-enum-told : tie.Need-enum-told
-enum-told c = search needs
-
-enum-told-2 : tie.Need-enum-told-2
-enum-told-2 c = search needs
 
 same-length : tie.Need-same-length
 same-length c = search needs
 
 returns-2 : tie.Need-returns-2
 returns-2 c =
-    let a = c .before .before .before .before .before .before .before .before .before .before .before .args in
-    let e = c .before .before .before .before .before .before .before .before .question-code .ensures in
-    let z = c .before .before .before .before .before .before .before .if1 .left in
-    let h =
-    subst (FirstBreaking (view (now (a .cat)) (a .target)) (a .left) (a .right)) (c .enum-told .given .1)
-    (c .before .before .breaking-pair .ensures) in
+    let a = c .before .before .before .before .before .before .before .before .before .before .args in
+    let e = c .before .before .before .before .before .before .before .question-code .ensures in
+    let z = c .before .before .before .before .before .before .if1 .left in
     let reply =
-    ask-breaks (now (a .cat)) (a .target) (a .left) (a .right) (length (now (a .work))) e z (h .0) in
+    ask-told (now (a .cat)) (a .target) (a .left) (a .right) (length (now (a .work))) true e z
+    (sym (c .if2 .taken) ∙ c .before .holds .ensures) in
     let words =
-    words-zeroed (now (a .cat)) (a .target) (a .left) (a .right) (now (a .work)) e z
-    (c .before .before .before .before .before .zero-words .ensures) in
+    words-zeroed (now (a .cat)) (a .target) (a .left) (a .right) (now (a .work)) e z (c .before .before .before .before .zero-words .ensures) in
     (reply, words)
 
 same-length-2 : tie.Need-same-length-2
@@ -67,17 +57,14 @@ same-length-2 c = search needs
 
 returns-3 : tie.Need-returns-3
 returns-3 c =
-    let a = c .before .before .before .before .before .before .before .before .before .before .before .args in
-    let e = c .before .before .before .before .before .before .before .before .question-code .ensures in
-    let z = c .before .before .before .before .before .before .before .if1 .left in
-    let h =
-    subst (FirstBreaking (view (now (a .cat)) (a .target)) (a .left) (a .right)) (c .enum-told2 .given .1)
-    (c .before .before .breaking-pair .ensures) in
+    let a = c .before .before .before .before .before .before .before .before .before .before .args in
+    let e = c .before .before .before .before .before .before .before .question-code .ensures in
+    let z = c .before .before .before .before .before .before .if1 .left in
     let reply =
-    ask-holds (now (a .cat)) (a .target) (a .left) (a .right) (length (now (a .work))) e z h in
+    ask-told (now (a .cat)) (a .target) (a .left) (a .right) (length (now (a .work))) false e z
+    (sym (c .if2 .left) ∙ c .before .holds .ensures) in
     let words =
-    words-zeroed (now (a .cat)) (a .target) (a .left) (a .right) (now (a .work)) e z
-    (c .before .before .before .before .before .zero-words .ensures) in
+    words-zeroed (now (a .cat)) (a .target) (a .left) (a .right) (now (a .work)) e z (c .before .before .before .before .zero-words .ensures) in
     (reply, words)
 
 pub ask-spec : {M : Type 1} → statement M
@@ -88,9 +75,7 @@ ask-spec =
     refusal-requires
     returns
     zero-words-requires
-    breaking-pair-requires
-    enum-told
-    enum-told-2
+    holds-requires
     same-length
     returns-2
     same-length-2

@@ -3,7 +3,7 @@ use mathlib.Core.Path.{subst}
 use lib.ListN.{length}
 use denote.Ref.{now}
 use Rattle.model.specs.Target.{view}
-use Rattle.dependency.specs.Pairs.{FirstBreaking}
+use Rattle.search.specs.Strays.{FirstBreaking}
 use Rattle.dependency.proofs.Replies.{refused-number, question-posed, pair-refused, pair-none, pair-breaking, words-kept, words-zeroed}
 use borrow.Author.Needs.{needs}
 use Rattle.dependency.proofs.pair.Statement.{statement}

@@ -64,24 +64,24 @@ use Rattle.model.proofs.Entry as R
 use Rattle.model.proofs.Entry.Laws as R′
 use Rattle.model.proofs.ListAnswer as L
 use Rattle.model.proofs.ListAnswer.Laws as L′
-use Rattle.listing.specs.declared.Walk.{Walk}
-use Rattle.listing.specs.declared.Stepped.{Stepped}
-use Rattle.listing.specs.declared.Stepped.the-variants.{Put, Done}
-use Rattle.listing.specs.Meaning.{code as codeOf}
-use Rattle.listing.specs.Steps.{whole as wholeOf, values as valuesOf, Began, Went}
-use Rattle.listing.proofs.Walk as K
-use Rattle.listing.proofs.Walk.Laws as K′
-use Rattle.listing.proofs.Stepped as S
-use Rattle.listing.proofs.Stepped.Laws as S′
+use Rattle.walk.specs.declared.Walk.{Walk}
+use Rattle.steps.specs.declared.Stepped.{Stepped}
+use Rattle.steps.specs.declared.Stepped.the-variants.{Put, Done}
+use Rattle.walk.specs.Meaning.{code as codeOf}
+use Rattle.steps.specs.Steps.{whole as wholeOf, values as valuesOf, Began, Went}
+use Rattle.walk.proofs.Walk as K
+use Rattle.walk.proofs.Walk.Laws as K′
+use Rattle.steps.proofs.Stepped as S
+use Rattle.steps.proofs.Stepped.Laws as S′
 use Rattle.listing.proofs.Steps.{Facts, runWith, begun, runWith-length, room-left, run-next, one-more, nearer}
 use Rattle.listing.proofs.Steps.{good, goes-on, lists}
 use Rattle.lent.proofs.Lent as lent
 use Rattle.listing.proofs.Called.{Answers, stepVal, walkVals, Begin, Step, to-begin, begin-asks, begin-tells}
 use Rattle.listing.proofs.Called.{to-step, step-asks, step-tells}
-use Rattle.listing.proofs.begin.Symbol as begin-def
-use Rattle.listing.proofs.begin.Met as begin-thm
-use Rattle.listing.proofs.step.Symbol as step-def
-use Rattle.listing.proofs.step.Met as step-thm
+use Rattle.steps.proofs.begin.Symbol as begin-def
+use Rattle.steps.proofs.begin.Met as begin-thm
+use Rattle.steps.proofs.step.Symbol as step-def
+use Rattle.steps.proofs.step.Met as step-thm
 use Rattle.listing.proofs.list.Key.{name as #key}
 use Rattle.listing.proofs.list as list
 use Rattle.listing.proofs.list.Statement as stated
@@ -612,6 +612,6 @@ list-spec 𝓤 H 𝓜 𝓖 𝓡 =
     (tables 𝓤 H 𝓜 𝓡 code.env .C) (tables 𝓤 H 𝓜 𝓡 code.env .Λ) #key code.function (code.unfolded 𝓤 H 𝓜 𝓡)
     (meets 𝓤 H (𝓖 .A) (givenOf 𝓤 H 𝓜 𝓖) (𝓜 .mem) (𝓡 .run) (tablesOf 𝓤 H 𝓜 (tables 𝓤 H 𝓜 𝓡 code.env))
     (cited 𝓤 H (Begin 𝓤 H (𝓖 .A) (𝓜 .mem)
-    (𝓡 .run)) 𝓜 𝓡 code.env begin-def.name begin-def.routine code.calls-listing·begin (begin-thm.met 𝓤 H 𝓜 𝓖 𝓡))
+    (𝓡 .run)) 𝓜 𝓡 code.env begin-def.name begin-def.routine code.calls-steps·begin (begin-thm.met 𝓤 H 𝓜 𝓖 𝓡))
     (cited 𝓤 H (Step 𝓤 H (𝓖 .A) (𝓜 .mem)
-    (𝓡 .run)) 𝓜 𝓡 code.env step-def.name step-def.routine code.calls-listing·step (step-thm.met 𝓤 H 𝓜 𝓖 𝓡)))
+    (𝓡 .run)) 𝓜 𝓡 code.env step-def.name step-def.routine code.calls-steps·step (step-thm.met 𝓤 H 𝓜 𝓖 𝓡)))

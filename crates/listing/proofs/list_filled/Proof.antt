@@ -333,11 +333,12 @@ module _ {M : Type 1} (𝓤 : URA M) (H : Heap 𝓤) (A : Atoms 𝓤) (W : Given
         move ! (1 ∷ 2 ∷ 3 ∷ 4 ∷ 5 ∷ 6 ∷ 7 ∷ 8 ∷ 9 ∷ 10 ∷ 11 ∷ 12 ∷ 13 ∷ 14 ∷ 15 ∷ 16 ∷ 17 ∷ 18 ∷ 19 ∷ 20 ∷ 0 ∷ []) $
         land ! (from ! (stop !)) (init ! 16 refl (answer-typed (x .0) v (hands .typed))) $
         rewrite ! 16 (λ (w : Val). ‵ (fat fullShare L′.mir l₈ 0 w)) (hands .value) refl $
-        assigns ! (of-opd ! (load ! (from ! (stop !)) (look ! 20 refl))) (from ! (stop !)) (init ! 4 refl
-        (array-typed runBound (x .1 .0 ++ rest room) _ is-run)) $
+        assigns ! (of-opd ! (load ! (from ! (stop !)) (look ! 20 refl))) (from ! (stop !)) (init ! 4
+        {τ = tyArray R′.mir runBound} {b = l₁₄} {o = 0} {v = arrayVal (map entryVal (x .1 .0 ++ rest room))} refl
+        (array-typed runBound (x .1 .0 ++ rest room) (arrayVal (map entryVal (x .1 .0 ++ rest room))) is-run)) $
         assigns ! (agg ! (and-then ! (load ! (from ! (stop !)) (look ! 16 refl)) (and-then ! (load ! (from !
         (stop !)) (look ! 4 refl)) (no-more !)))) (from ! (stop !))
-        (init ! 32 refl (filled-typed (x .0) (x .1 .0 ++ rest room) (filled-is (x .0) (x .1 .0 ++ rest room)
+        (init ! 32 {τ = F′.mir} {b = l₀} {o = 0} {v = mach (x .0) (x .1 .0 ++ rest room)} refl (filled-typed (x .0) (x .1 .0 ++ rest room) (filled-is (x .0) (x .1 .0 ++ rest room)
         (hands .settled) is-run))) $
         returns ! (look ! 32 refl) $ forget ! 32 refl $ forget ! 30 refl $ forget ! 28 refl $ forget ! 26 refl $
         forget ! 24 refl $ forget ! 22 refl $ forget ! 20 refl $ forget ! 18 refl $ forget ! 16 refl $

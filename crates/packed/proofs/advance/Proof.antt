@@ -36,13 +36,13 @@ use denote.Triple.Table.{entered, cited}
 use denote.Triple.Walked.{says, Stays, stay-none, walkOf, goes-none, Walks, ends-at, walked, walk-meets}
 use denote.Exit.{yes}
 use denote.Triple.Clauses.{ensured, lasts}
-use Rattle.packed.specs.Reading.{entriesBy, afterIn}
+use Rattle.unpacking.specs.Reading.{entriesBy, afterIn}
 use Rattle.packed.specs.declared.Reader.{Reader}
 use Rattle.packed.proofs.Reader.Laws as T′
 use Rattle.packed.proofs.Held.{readerRow, readerVals, reader-tells, answerVal, readerType, readerLaws, readerFields, readerVal, fileVal, readerOwn, fieldsOwn, shares-fields, reader-typed, answer-typed}
-use Rattle.packed.proofs.position_after as callee
-use Rattle.packed.proofs.position_after.Symbol as callee-def
-use Rattle.packed.proofs.position_after.Met as callee-thm
+use Rattle.unpacking.proofs.position_after as callee
+use Rattle.unpacking.proofs.position_after.Symbol as callee-def
+use Rattle.unpacking.proofs.position_after.Met as callee-thm
 use Rattle.packed.proofs.advance.Key.{name as #key}
 use Rattle.packed.proofs.advance as advance
 use Rattle.packed.proofs.advance.Statement as stated
@@ -151,4 +151,4 @@ advance-spec 𝓤 H 𝓜 𝓖 𝓡 =
     entered 𝓤 H (tripleOf 𝓤 H (𝓖 .A) advance.signature (advance.spec 𝓤 H (𝓖 .A) (𝓜 .mem) (𝓡 .run)))
     (tables 𝓤 H 𝓜 𝓡 code.env .C) (tables 𝓤 H 𝓜 𝓡 code.env .Λ) #key code.function (code.unfolded 𝓤 H 𝓜 𝓡)
     (meets 𝓤 H (𝓖 .A) (givenOf 𝓤 H 𝓜 𝓖) (𝓜 .mem) (𝓡 .run) (tablesOf 𝓤 H 𝓜 (tables 𝓤 H 𝓜 𝓡 code.env))
-    (cited 𝓤 H (After 𝓤 H (𝓖 .A) (𝓜 .mem) (𝓡 .run)) 𝓜 𝓡 code.env callee-def.name callee-def.routine code.calls-packed·position-after (callee-thm.met 𝓤 H 𝓜 𝓖 𝓡)))
+    (cited 𝓤 H (After 𝓤 H (𝓖 .A) (𝓜 .mem) (𝓡 .run)) 𝓜 𝓡 code.env callee-def.name callee-def.routine code.calls-unpacking·position-after (callee-thm.met 𝓤 H 𝓜 𝓖 𝓡)))

@@ -35,9 +35,9 @@ use denote.Triple.Clauses.{ensured, lasts}
 use Rattle.packed.specs.Reading.{frontHeld}
 use Rattle.packed.specs.declared.Reader.{Reader}
 use Rattle.packed.proofs.Held.{readerRow, readerVals, reader-tells, answerVal, readerVal, fileVal, readerOwn, fieldsOwn, shares-fields, reader-typed, answer-typed}
-use Rattle.packed.proofs.front_by as callee
-use Rattle.packed.proofs.front_by.Symbol as callee-def
-use Rattle.packed.proofs.front_by.Met as callee-thm
+use Rattle.unpacking.proofs.front_by as callee
+use Rattle.unpacking.proofs.front_by.Symbol as callee-def
+use Rattle.unpacking.proofs.front_by.Met as callee-thm
 use Rattle.packed.proofs.front_of.Key.{name as #key}
 use Rattle.packed.proofs.front_of as front-of
 use Rattle.packed.proofs.front_of.Statement as stated
@@ -130,4 +130,4 @@ front-of-spec 𝓤 H 𝓜 𝓖 𝓡 =
     entered 𝓤 H (tripleOf 𝓤 H (𝓖 .A) front-of.signature (front-of.spec 𝓤 H (𝓖 .A) (𝓜 .mem) (𝓡 .run)))
     (tables 𝓤 H 𝓜 𝓡 code.env .C) (tables 𝓤 H 𝓜 𝓡 code.env .Λ) #key code.function (code.unfolded 𝓤 H 𝓜 𝓡)
     (meets 𝓤 H (𝓖 .A) (givenOf 𝓤 H 𝓜 𝓖) (𝓜 .mem) (𝓡 .run) (tablesOf 𝓤 H 𝓜 (tables 𝓤 H 𝓜 𝓡 code.env))
-    (cited 𝓤 H (Front 𝓤 H (𝓖 .A) (𝓜 .mem) (𝓡 .run)) 𝓜 𝓡 code.env callee-def.name callee-def.routine code.calls-packed·front-by (callee-thm.met 𝓤 H 𝓜 𝓖 𝓡)))
+    (cited 𝓤 H (Front 𝓤 H (𝓖 .A) (𝓜 .mem) (𝓡 .run)) 𝓜 𝓡 code.env callee-def.name callee-def.routine code.calls-unpacking·front-by (callee-thm.met 𝓤 H 𝓜 𝓖 𝓡)))

@@ -35,9 +35,9 @@ use Rattle.model.proofs.ReadAnswer.Laws as S′
 use Rattle.packed.specs.Reading.{nextOf}
 use Rattle.packed.specs.declared.Reader.{Reader}
 use Rattle.packed.proofs.Held.{readerRow, readerVals, reader-tells, answerVal, readerVal, fileVal, readerOwn, fieldsOwn, shares-fields, reader-typed, answer-typed}
-use Rattle.packed.proofs.entry_at as callee
-use Rattle.packed.proofs.entry_at.Symbol as callee-def
-use Rattle.packed.proofs.entry_at.Met as callee-thm
+use Rattle.unpacking.proofs.entry_at as callee
+use Rattle.unpacking.proofs.entry_at.Symbol as callee-def
+use Rattle.unpacking.proofs.entry_at.Met as callee-thm
 use Rattle.packed.proofs.next.Key.{name as #key}
 use Rattle.packed.proofs.next as next
 use Rattle.packed.proofs.next.Statement as stated
@@ -127,4 +127,4 @@ next-spec 𝓤 H 𝓜 𝓖 𝓡 =
     entered 𝓤 H (tripleOf 𝓤 H (𝓖 .A) next.signature (next.spec 𝓤 H (𝓖 .A) (𝓜 .mem) (𝓡 .run)))
     (tables 𝓤 H 𝓜 𝓡 code.env .C) (tables 𝓤 H 𝓜 𝓡 code.env .Λ) #key code.function (code.unfolded 𝓤 H 𝓜 𝓡)
     (meets 𝓤 H (𝓖 .A) (givenOf 𝓤 H 𝓜 𝓖) (𝓜 .mem) (𝓡 .run) (tablesOf 𝓤 H 𝓜 (tables 𝓤 H 𝓜 𝓡 code.env))
-    (cited 𝓤 H (EntryAt 𝓤 H (𝓖 .A) (𝓜 .mem) (𝓡 .run)) 𝓜 𝓡 code.env callee-def.name callee-def.routine code.calls-packed·entry-at (callee-thm.met 𝓤 H 𝓜 𝓖 𝓡)))
+    (cited 𝓤 H (EntryAt 𝓤 H (𝓖 .A) (𝓜 .mem) (𝓡 .run)) 𝓜 𝓡 code.env callee-def.name callee-def.routine code.calls-unpacking·entry-at (callee-thm.met 𝓤 H 𝓜 𝓖 𝓡)))

@@ -56,18 +56,18 @@ use Rattle.model.proofs.Entry as R
 use Rattle.model.proofs.Entry.Laws as R′
 use Rattle.model.proofs.PackAnswer as L
 use Rattle.model.proofs.PackAnswer.Laws as L′
-use Rattle.packed.specs.declared.Packing.{Packing}
-use Rattle.packed.specs.Packing.{Started, Stepped, steps}
-use Rattle.packed.proofs.Packing as P
-use Rattle.packed.proofs.Packing.Laws as P′
-use Rattle.packed.proofs.Passes.{Stands, stands-first, stands-ready, stands-next, stands-last}
+use Rattle.packing.specs.declared.Packing.{Packing}
+use Rattle.packing.specs.Packing.{Started, Stepped, steps}
+use Rattle.packing.proofs.Packing as P
+use Rattle.packing.proofs.Packing.Laws as P′
+use Rattle.packing.proofs.Passes.{Stands, stands-first, stands-ready, stands-next, stands-last}
 use Rattle.lent.proofs.Lent as lent
 use Rattle.packed.proofs.Rest.{after}
 use Rattle.packed.proofs.Called.{Answers, packVal, packVals, entryVals, Start, Step, to-start, start-asks, start-tells, to-step, step-asks, step-tells}
-use Rattle.packed.proofs.first_pass.Symbol as start-def
-use Rattle.packed.proofs.first_pass.Met as start-thm
-use Rattle.packed.proofs.step.Symbol as step-def
-use Rattle.packed.proofs.step.Met as step-thm
+use Rattle.packing.proofs.first_pass.Symbol as start-def
+use Rattle.packing.proofs.first_pass.Met as start-thm
+use Rattle.packing.proofs.step.Symbol as step-def
+use Rattle.packing.proofs.step.Met as step-thm
 use Rattle.packed.proofs.pack.Key.{name as #key}
 use Rattle.packed.proofs.pack as pack
 use Rattle.packed.proofs.pack.Statement as stated
@@ -385,5 +385,5 @@ pack-spec 𝓤 H 𝓜 𝓖 𝓡 =
     entered 𝓤 H (tripleOf 𝓤 H (𝓖 .A) pack.signature (pack.spec 𝓤 H (𝓖 .A) (𝓜 .mem) (𝓡 .run)))
     (tables 𝓤 H 𝓜 𝓡 code.env .C) (tables 𝓤 H 𝓜 𝓡 code.env .Λ) #key code.function (code.unfolded 𝓤 H 𝓜 𝓡)
     (meets 𝓤 H (𝓖 .A) (givenOf 𝓤 H 𝓜 𝓖) (𝓜 .mem) (𝓡 .run) (tablesOf 𝓤 H 𝓜 (tables 𝓤 H 𝓜 𝓡 code.env))
-    (cited 𝓤 H (Start 𝓤 H (𝓖 .A) (𝓜 .mem) (𝓡 .run)) 𝓜 𝓡 code.env start-def.name start-def.routine code.calls-packed·first-pass (start-thm.met 𝓤 H 𝓜 𝓖 𝓡))
-    (cited 𝓤 H (Step 𝓤 H (𝓖 .A) (𝓜 .mem) (𝓡 .run)) 𝓜 𝓡 code.env step-def.name step-def.routine code.calls-packed·step (step-thm.met 𝓤 H 𝓜 𝓖 𝓡)))
+    (cited 𝓤 H (Start 𝓤 H (𝓖 .A) (𝓜 .mem) (𝓡 .run)) 𝓜 𝓡 code.env start-def.name start-def.routine code.calls-packing·first-pass (start-thm.met 𝓤 H 𝓜 𝓖 𝓡))
+    (cited 𝓤 H (Step 𝓤 H (𝓖 .A) (𝓜 .mem) (𝓡 .run)) 𝓜 𝓡 code.env step-def.name step-def.routine code.calls-packing·step (step-thm.met 𝓤 H 𝓜 𝓖 𝓡)))

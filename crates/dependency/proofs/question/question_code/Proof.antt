@@ -1,7 +1,7 @@
 -- `dependency::question_code` meets its contract: the first code that is not 0.
 use Prim.Native.Nat.{ℕ}
 use mathlib.Core.Path.{_≡_, sym, _∙_}
-use Rattle.layout.proofs.First.{is-this, is-next}
+use Rattle.grounds.proofs.First.{is-this, is-next}
 use Rattle.model.specs.Refusal.{orElse}
 use Rattle.model.specs.Question.{questionCode}
 use borrow.Author.Needs.{needs}

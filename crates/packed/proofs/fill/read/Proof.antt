@@ -63,10 +63,10 @@ use Rattle.model.proofs.Entry as R
 use Rattle.model.proofs.Entry.Laws as R′
 use Rattle.model.proofs.EntriesAnswer as L
 use Rattle.model.proofs.EntriesAnswer.Laws as L′
-use Rattle.packed.specs.declared.fill.Plan.{Plan}
+use Rattle.unpacking.specs.declared.Plan.{Plan}
 use Rattle.packed.specs.Filling.{Planned}
-use Rattle.packed.proofs.fill.Plan as P
-use Rattle.packed.proofs.fill.Plan.Laws as P′
+use Rattle.unpacking.proofs.Plan as P
+use Rattle.unpacking.proofs.Plan.Laws as P′
 use Rattle.packed.proofs.Filling.{filled, filled-none, filled-length, filled-next, filled-all}
 use Rattle.lent.proofs.Lent as lent
 use Rattle.packed.proofs.Rest.{after}
@@ -75,8 +75,8 @@ use Rattle.packed.proofs.FillCalls.{planVals, planVal, entryVal, Plans,
 use Rattle.packed.proofs.FillCalls.{to-plan, plan-asks, plan-tells, to-entry, entry-asks, entry-tells}
 use Rattle.packed.proofs.fill.planned.Symbol as plan-def
 use Rattle.packed.proofs.fill.planned.Met as plan-thm
-use Rattle.packed.proofs.entry_from.Symbol as entry-def
-use Rattle.packed.proofs.entry_from.Met as entry-thm
+use Rattle.entries.proofs.entry_from.Symbol as entry-def
+use Rattle.entries.proofs.entry_from.Met as entry-thm
 use Rattle.packed.proofs.fill.read.Key.{name as #key}
 use Rattle.packed.proofs.fill.read as read
 use Rattle.packed.proofs.fill.read.Statement as stated
@@ -454,4 +454,4 @@ read-spec 𝓤 H 𝓜 𝓖 𝓡 =
     (cited 𝓤 H (Planner 𝓤 H (𝓖 .A) (𝓜 .mem) (𝓡 .run)) 𝓜 𝓡 code.env plan-def.name plan-def.routine
     code.calls-packed·fill·planned (plan-thm.met 𝓤 H 𝓜 𝓖 𝓡))
     (cited 𝓤 H (Reader 𝓤 H (𝓖 .A) (𝓜 .mem) (𝓡 .run)) 𝓜 𝓡 code.env entry-def.name entry-def.routine
-    code.calls-packed·entry-from (entry-thm.met 𝓤 H 𝓜 𝓖 𝓡)))
+    code.calls-entries·entry-from (entry-thm.met 𝓤 H 𝓜 𝓖 𝓡)))

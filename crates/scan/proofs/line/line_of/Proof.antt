@@ -1,19 +1,27 @@
--- `scan::line_of` meets its contract: emptied, and then column by column.
-use Prim.Native.Nat.{_-_}
+-- `scan::line_of` meets its contract: by eight members, and where there are more by sixteen.
 use native.Mathlib.Omega.{arith}
 use borrow.Author.Needs.{needs}
-use Rattle.scan.proofs.Lines.{line-none}
+use Rattle.scan.proofs.Lines.{line-sets}
 use Rattle.scan.proofs.line.line_of.Statement.{statement}
 use Rattle.scan.proofs.line.line_of.Tie as tie
 
-clear-line-requires : tie.Need-clear-line-requires
-clear-line-requires c κs = search needs
-
-line-on-requires : tie.Need-line-on-requires
-line-on-requires c κs = (omega arith, line-none _ _ _ _ _ (c .before .clear-line .ensures .0) (c .before .clear-line .ensures .1))
+add-eight-requires : tie.Need-add-eight-requires
+add-eight-requires c κs = search needs
 
 returns : tie.Need-returns
-returns c = search needs
+returns c = line-sets (omega arith) (c .before .add-eight .ensures)
+
+add-eight-requires-2 : tie.Need-add-eight-requires-2
+add-eight-requires-2 c κs = search needs
+
+returns-2 : tie.Need-returns-2
+returns-2 c = line-sets (omega arith) (c .add-eight2 .ensures)
 
 pub line-of-spec : {M : Type 1} → statement M
-line-of-spec = tie.close (tie.spec clear-line-requires line-on-requires returns)
+line-of-spec =
+    tie.close
+    (tie.spec
+    add-eight-requires
+    returns
+    add-eight-requires-2
+    returns-2)

@@ -1,4 +1,0 @@
-pub mod Walk
-pub mod Grants
-pub mod AgreeSet
-pub mod Agreement

@@ -1,0 +1,4 @@
+pub mod Put
+pub mod Grants
+pub mod Walk
+pub mod Climb

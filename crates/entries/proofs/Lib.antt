@@ -1,0 +1,4 @@
+pub mod Grounds
+pub mod Bytes
+pub mod Entries
+pub mod Checks

@@ -1,0 +1,105 @@
+-- The words of one column are equal exactly where rows agree, so the leaders by them are the leaders by the column.
+use Prim.Native.Nat.{ℕ, _+_, _≤_, _<_}
+use mathlib.Core.Path.{_≡_, sym, ap, ap₂, _∙_}
+use mathlib.Core.List.{List}
+use mathlib.Core.Bool.{true, false}
+use native.Mathlib.Decide.{ℕ-discrete}
+use native.Mathlib.Omega.{arith}
+use borrow.Author.Tests.{eq-eqb, ne-eqb}
+use lib.Dec.{eqb}
+use lib.ListN.{length, getD, set}
+use Rattle.columns.proofs.Test.{ifEq-yes, ifEq-no}
+use Rattle.model.specs.Bounds.{rowBound, missing}
+use Rattle.model.specs.Target.{cellsAgree}
+use Rattle.leaders.specs.Keys.{firstSame}
+use Rattle.leaders.proofs.Leaders.{firstFrom-same}
+use Rattle.climb.specs.Put.{Put}
+use Rattle.climb.proofs.Put.{put-begun, put-more, put-first}
+use Rattle.keys.specs.Column.{codeOf, agreeBy, leaderBy, wordOf, Words}
+
+-- the word of a missing cell is beyond all codes, and that of another is its code
+word-missing : (code x : ℕ) → code ≡ missing → wordOf code x ≡ missing + 1 + x
+unfolding wordOf
+word-missing code x e = ifEq-yes code e
+
+word-present : (code x : ℕ) → (code ≡ missing → ⊥) → wordOf code x ≡ code
+unfolding wordOf
+word-present code x n = ifEq-no (missing + 1 + x) n
+
+-- one row agrees with itself, and two agree by their codes
+cells-one : (x y c d : ℕ) → x ≡ y → cellsAgree x y c d ≡ true
+unfolding cellsAgree
+cells-one x y c d e = simp (eq-eqb x y e)
+
+cells-missing : (x y c d : ℕ) → (x ≡ y → ⊥) → c ≡ missing → cellsAgree x y c d ≡ false
+unfolding cellsAgree
+cells-missing x y c d n e = simp (ne-eqb x y n, eq-eqb c missing e)
+
+cells-present : (x y c d : ℕ) → (x ≡ y → ⊥) → (c ≡ missing → ⊥) → cellsAgree x y c d ≡ eqb c d
+unfolding cellsAgree
+cells-present x y c d n e = simp (ne-eqb x y n, ne-eqb c missing e)
+
+words-two : (c d x y : ℕ) → c ≤ missing → d ≤ missing → (x ≡ y → ⊥) → eqb (wordOf c x) (wordOf d y) ≡ cellsAgree x y c d
+words-two c d x y lc ld n = at (ℕ-discrete c missing) (ℕ-discrete d missing)
+  where
+    at : Dec (c ≡ missing) → Dec (d ≡ missing) → eqb (wordOf c x) (wordOf d y) ≡ cellsAgree x y c d
+    at (yes e) (yes f) =
+        ap₂ eqb (word-missing c x e) (word-missing d y f) ∙ ne-eqb (missing + 1 + x) (missing + 1 + y) (λ g. n (omega arith))
+        ∙ sym (cells-missing x y c d n e)
+    at (yes e) (no f) =
+        ap₂ eqb (word-missing c x e) (word-present d y f) ∙ ne-eqb (missing + 1 + x) d (λ g. omega arith)
+        ∙ sym (cells-missing x y c d n e)
+    at (no e) (yes f) =
+        ap₂ eqb (word-present c x e) (word-missing d y f) ∙ ne-eqb c (missing + 1 + y) (λ g. omega arith)
+        ∙ sym (ne-eqb c d (λ g. e (g ∙ f))) ∙ sym (cells-present x y c d n e)
+    at (no e) (no f) =
+        ap₂ eqb (word-present c x e) (word-present d y f) ∙ sym (cells-present x y c d n e)
+
+words-same : (f : ℕ → ℕ) (x y : ℕ) → f x ≤ missing → f y ≤ missing
+    → eqb (wordOf (f x) x) (wordOf (f y) y) ≡ cellsAgree x y (f x) (f y)
+words-same f x y lx ly = at (ℕ-discrete x y)
+  where
+    at : Dec (x ≡ y) → eqb (wordOf (f x) x) (wordOf (f y) y) ≡ cellsAgree x y (f x) (f y)
+    at (yes e) =
+        eq-eqb (wordOf (f x) x) (wordOf (f y) y) (ap (λ (z : ℕ). wordOf (f z) z) e) ∙ sym (cells-one x y (f x) (f y) e)
+    at (no n) = words-two (f x) (f y) x y lx ly n
+
+-- the words of the rows below q, filled one after the other
+pub record Filling (b : List ℕ) (from width : ℕ) (reached : List ℕ) (q : ℕ) (before words : List ℕ) : Type 0 where
+  pub put : Put 0 q (λ p. wordOf (codeOf b from width (getD reached p 0)) (getD reached p 0)) before words
+  pub small : (p : ℕ) → p < q → codeOf b from width (getD reached p 0) ≤ missing
+
+pub filling-begun : (b : List ℕ) (from width : ℕ) (reached before : List ℕ) → Filling b from width reached 0 before before
+filling-begun b from width reached before = record { put = put-begun _ _ _; small = λ p l. absurd (omega arith) }
+
+pub filling-more : (b : List ℕ) (from width : ℕ) (reached : List ℕ) (q : ℕ) (before words : List ℕ) (code x : ℕ) → q < length before
+    → code ≡ codeOf b from width (getD reached q 0) → code ≤ missing → x ≡ wordOf code (getD reached q 0)
+    → Filling b from width reached q before words → Filling b from width reached (q + 1) before (set words q x)
+filling-more b from width reached q before words code x l e s f h =
+    record {
+      put = put-more 0 q q _ before words x (omega arith) l (f ∙ ap (λ (z : ℕ). wordOf z (getD reached q 0)) e) (h .put);
+      small = λ p k. at p k (ℕ-discrete p q);
+    }
+  where
+    at : (p : ℕ) → p < q + 1 → Dec (p ≡ q) → codeOf b from width (getD reached p 0) ≤ missing
+    at p k (yes g) = omega (arith, ap (λ (z : ℕ). codeOf b from width (getD reached z 0)) g)
+    at p k (no n) = h .small p (omega arith)
+
+pub filled : (b : List ℕ) (from width : ℕ) (reached : List ℕ) (end q : ℕ) (before words : List ℕ) → length before ≡ rowBound → end ≤ q
+    → Filling b from width reached q before words → Words b from width reached end words
+unfolding agreeBy
+filled b from width reached end q before words long l h =
+    record {
+      long = h .put .same-length ∙ long;
+      same = λ p r lp lr.
+          ap₂ eqb (put-first (h .put) p (omega arith)) (put-first (h .put) r (omega arith))
+          ∙ words-same (codeOf b from width) (getD reached p 0) (getD reached r 0) (h .small p (omega arith)) (h .small r (omega arith));
+    }
+
+-- the leaders by the words
+pub leader-by-words : (b : List ℕ) (from width : ℕ) (reached : List ℕ) (end : ℕ) (words : List ℕ) → Words b from width reached end words
+    → (q : ℕ) → q < end → firstSame words q ≡ leaderBy b from width reached q
+unfolding firstSame leaderBy
+leader-by-words b from width reached end words h q l =
+    firstFrom-same (λ p. eqb (getD words p 0) (getD words q 0)) (λ p. agreeBy b from width reached p q) q 0
+    (λ p m n. h .same p q (omega arith) l)

@@ -1,0 +1,86 @@
+// Not for callers: the keys of a target's members, laid from the catalogue. The key of a row on a member is the lowest row that agrees with it
+// there, so above the keys nothing looks at codes, missing cells or ancestor rows.
+// Relies on `layout` for what stands where and on `grouping` for rows grouped by words. Called by `rights` and `dependency`.
+mod column;
+
+ghost use Prim.Native.Nat.{ℕ, _+_, _*_, _^_, _≤_, _<_};
+ghost use mathlib.Core.Path.{_≡_};
+ghost use lib.ListN.{length, getD};
+ghost use Rattle.columns.specs.Bound.{columnBound};
+ghost use Rattle.model.specs.Bounds.{rowBound};
+ghost use Rattle.model.specs.Catalogue.{tables, visible};
+ghost use Rattle.model.specs.Check.{Accepted};
+ghost use Rattle.model.specs.Target.{view};
+ghost use Rattle.leaders.specs.Keys.{keysSize, LaidFor};
+ghost use Rattle.keys.specs.Column.{LaidTable};
+use bits::power;
+use climb::code_at;
+use climb::index;
+use climb::own_rows;
+use climb::parent_rows;
+use climb::short_at;
+use column::fill_words;
+use column::put_keys;
+use grouping::group;
+use layout::rows;
+use layout::trailer;
+use leaders::ROWS;
+use leaders::SIZE;
+
+// Lays the members of a set among the c columns of the table at o, the last first, where the first is member low and the rows of the target lead
+// to the rows reached.
+fn lay_table(
+    b: &[u8],
+    o: usize,
+    c: usize,
+    low: usize,
+    reached: &[u16; ROWS],
+    end: usize,
+    set: u32,
+    keys: &mut [u16; SIZE],
+)
+    requires { ⌜ (o < 2 ^ 32) × (low + c ≤ columnBound) × (end ≤ rowBound) × (length (now keys) ≡ keysSize) ⌝ }
+    requires { ⌜ ((q : ℕ) → q < end → o + 6 + getD (now reached) q 0 * (2 + 4 * c) + (2 + 4 * c) ≤ length (now b)) ⌝ }
+    ensures { λ _. ⌜ LaidTable (now (b .entry)) o c low (now (reached .entry)) end set 0 (now (keys .entry)) (now (keys .exit)) ⌝ }
+{
+    let mut words = [0; ROWS];
+    let mut leaders = [0; ROWS];
+    let mut j = c;
+    while 0 < j {
+        j -= 1;
+        if (set >> (low + j)) % 2 == 0 {
+            continue;
+        }
+        fill_words(b, o + 8 + 4 * j, 2 + 4 * c, reached, end, &mut words);
+        group(&words, end, &mut leaders);
+        put_keys(low + j, end, &leaders, keys);
+    }
+}
+
+// Lays the keys of the members in a set, table by table from the target up to the last that has one: the key of a row on a member is the lowest row
+// that agrees with it there.
+pub fn lay(b: &[u8], t: u32, n: u32, set: u32, keys: &mut [u16; SIZE])
+    requires { ⌜ Accepted (now b) ⌝ }
+    requires { ⌜ t < tables (now b) ⌝ }
+    requires { ⌜ n ≡ visible (now b) t ⌝ }
+    requires { ⌜ length (now keys) ≡ keysSize ⌝ }
+    ensures { λ _. ⌜ (length (now (keys .exit)) ≡ keysSize) × LaidFor (view (now (b .entry)) t) set (now (keys .exit)) ⌝ }
+{
+    let first = trailer(b) as usize;
+    let end = index(rows(b, t));
+    let mut reached = [0; ROWS];
+    own_rows(end, &mut reached);
+    let mut at = t as usize;
+    let mut above = n as usize;
+    loop {
+        let o = code_at(b, first + 4 * at) as usize;
+        let c = index(short_at(b, o));
+        above -= c;
+        lay_table(b, o, c, above, &reached, end, set, keys);
+        if set % power(above as u32) == 0 {
+            return;
+        }
+        parent_rows(b, o + 6, 2 + 4 * c, end, &mut reached);
+        at = index(short_at(b, o + 2));
+    }
+}

@@ -1,0 +1,4 @@
+pub mod Leaders
+pub mod Keys
+pub mod Numbers
+pub mod Cases

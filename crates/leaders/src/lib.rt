@@ -1,0 +1,9 @@
+// Not for callers: leaders and keys of rows, as definitions and laws over any view; no function. The leader of a row on a left side is the lowest row that
+// agrees with it there, and the key of a row on a member is its leader on that member alone. Where agreement is an equivalence, two rows agree exactly
+// if their leaders, or their keys, are equal: above the keys nothing looks at codes, missing cells or ancestor rows.
+// Relies on the definitions of `model` and `table`. Its laws are cited by `grouping`, `keys`, `partition`, `scan`, `rights` and `dependency`.
+
+// How many rows a target can have, and how many keys there are room for: `rowBound` and `keysSize` are the same numbers in the definitions.
+pub const ROWS: usize = model::ROW_BOUND as usize;
+
+pub const SIZE: usize = columns::COLUMN_BOUND as usize * ROWS;

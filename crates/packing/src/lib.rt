@@ -1,0 +1,176 @@
+// Not for callers: packing entries one by one, as `packed::pack` has them pass twice: `first_pass` begins, `step` goes on with the entry that is to
+// come, until an answer stands.
+// Relies on the definitions of `model` and on `entries` for 15. Called by `packed`.
+ghost use Prim.Native.Nat.{_+_, _*_, _%_, _≤_, _<_};
+ghost use mathlib.Core.Path.{_≡_};
+ghost use mathlib.Core.Bool.{true, false};
+ghost use lib.Dec.{ltb};
+ghost use lib.ListN.{length};
+ghost use lib.Seq.{sets};
+ghost use Rattle.model.specs.Bytes.{bytes4};
+ghost use Rattle.model.specs.Packed.{bytesOf};
+ghost use Rattle.packing.specs.Packing.{Started, Passed, Wrote, Finished, Ready, Stepped};
+use entries::fine_after;
+use model::Entry;
+use model::PackAnswer;
+use model::Refusal;
+
+// Where packing stands: the entries are passed twice, first to check them, then to write them. While it is going on, an entry is to come:
+// the pass, its index, and the entry before it. Else the answer.
+pub struct Packing {
+    pub going: bool,
+    pub writing: bool,
+    pub at: usize,
+    pub before: Entry,
+    pub answer: PackAnswer,
+}
+
+// The lowest byte of a number.
+fn low(x: usize) -> u8
+    ensures { λ r. ⌜ r ≡ x % 256 ⌝ }
+{
+    (x % 256) as u8
+}
+
+// Writes a 4-byte number.
+fn put_u32(out: &mut [u8], at: usize, x: usize)
+    requires { ⌜ at + 4 ≤ length (now out) ⌝ }
+    ensures { λ _. ⌜ now (out .exit) ≡ sets (now (out .entry)) at (bytes4 x) ⌝ }
+{
+    out[at] = low(x);
+    out[at + 1] = low(x / 256);
+    out[at + 2] = low(x / 65536);
+    out[at + 3] = low(x / 16777216);
+}
+
+// Writes an entry.
+fn put_entry(out: &mut [u8], at: usize, e: Entry)
+    requires { ⌜ at + 4 ≤ length (now out) ⌝ }
+    ensures { λ _. ⌜ now (out .exit) ≡ sets (now (out .entry)) at (bytesOf e) ⌝ }
+{
+    let left = e.left as usize;
+    out[at] = e.target;
+    out[at + 1] = e.right;
+    out[at + 2] = low(left);
+    out[at + 3] = low(left / 256);
+}
+
+// Is the output too short for k entries and the trailer?
+fn too_short(k: usize, room: usize) -> bool
+    ensures { λ r. ⌜ r ≡ ltb room (4 * k + 8) ⌝ }
+{
+    if room < 8 {
+        return true;
+    }
+    (room - 8) / 4 < k
+}
+
+// No entry is to come.
+fn stopped(answer: PackAnswer) -> Packing
+    ensures { λ r. ⌜ (r .going ≡ false) × (r .answer ≡ answer) ⌝ }
+{
+    Packing {
+        going: false,
+        writing: false,
+        at: 0,
+        before: Entry {
+            target: 0,
+            right: 0,
+            left: 0,
+        },
+        answer: answer,
+    }
+}
+
+// The entry at an index is to come.
+fn going_on(writing: bool, at: usize, before: Entry) -> Packing
+    ensures { λ r. ⌜ (r .going ≡ true) × (r .writing ≡ writing) × (r .at ≡ at) × (r .before ≡ before) ⌝ }
+{
+    Packing {
+        going: true,
+        writing: writing,
+        at: at,
+        before: before,
+        answer: PackAnswer::Packed { bytes: 0 },
+    }
+}
+
+// All entries are written: writes the trailer behind them.
+fn finish(k: usize, out: &mut [u8]) -> Packing
+    requires { ⌜ 4 * k + 8 ≤ length (now out) ⌝ }
+    ensures { λ r. ⌜ Finished k (now (out .entry)) r (now (out .exit)) ⌝ }
+{
+    put_u32(out, 4 * k, k);
+    put_u32(out, 4 * k + 4, 4 * k + 8);
+    stopped(PackAnswer::Packed { bytes: 4 * k + 8 })
+}
+
+// All entries are checked: 16, and the second pass begins.
+fn second_pass(k: usize, out: &mut [u8]) -> Packing
+    ensures { λ r. ⌜ Passed k (now (out .entry)) r (now (out .exit)) ⌝ }
+{
+    if too_short(k, out.len()) {
+        return stopped(PackAnswer::Refused(Refusal::OutputTooShort));
+    }
+    if k == 0 {
+        return finish(k, out);
+    }
+    going_on(
+        true,
+        0,
+        Entry {
+            target: 0,
+            right: 0,
+            left: 0,
+        },
+    )
+}
+
+// The first pass begins.
+pub fn first_pass(k: usize, out: &mut [u8]) -> Packing
+    ensures { λ r. ⌜ Started k (now (out .entry)) r (now (out .exit)) ⌝ }
+{
+    if k == 0 {
+        return second_pass(k, out);
+    }
+    going_on(
+        false,
+        0,
+        Entry {
+            target: 0,
+            right: 0,
+            left: 0,
+        },
+    )
+}
+
+// A step of the second pass: writes the entry at an index, and behind the last the trailer.
+fn write_step(k: usize, at: usize, e: Entry, out: &mut [u8]) -> Packing
+    requires { ⌜ (at < k) × (4 * k + 8 ≤ length (now out)) ⌝ }
+    ensures { λ r. ⌜ Wrote k at e (now (out .entry)) r (now (out .exit)) ⌝ }
+{
+    put_entry(out, 4 * at, e);
+    if at + 1 < k {
+        return going_on(true, at + 1, e);
+    }
+    finish(k, out)
+}
+
+// A step of either pass, with the entry that was to come.
+pub fn step(k: usize, s: Packing, e: Entry, out: &mut [u8]) -> Packing
+    requires { ⌜ Ready k s (now out) ⌝ }
+    ensures { λ r. ⌜ Stepped k s e (now (out .entry)) r (now (out .exit)) ⌝ }
+{
+    let at = s.at;
+    if s.writing {
+        return write_step(k, at, e, out);
+    }
+    let before = s.before;
+    if !fine_after(at, before, e) {
+        return stopped(PackAnswer::Refused(Refusal::BadEntry));
+    }
+    if at + 1 < k {
+        return going_on(false, at + 1, e);
+    }
+    second_pass(k, out)
+}

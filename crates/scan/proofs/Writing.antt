@@ -1,0 +1,114 @@
+-- The words written from the bytes that say which agree sets occur, one after the other, and what they are for a view that the keys are right for.
+use Prim.Native.Nat.{ℕ, _+_, _-_, _*_, _^_, _≤_, _<_}
+use mathlib.Core.Path.{_≡_, refl, sym, ap, subst, _∙_}
+use mathlib.Core.Logic.{_↔_}
+use mathlib.Core.Bool.{Bool}
+use mathlib.Core.List.{List}
+use native.Mathlib.Decide.{ℕ-discrete}
+use native.Mathlib.Numerals.{add-one}
+use native.Mathlib.Omega.{arith}
+use lib.Bits.{bitOr}
+use lib.Dec.{T}
+use lib.ListN.{length, set, length-set}
+use lib.Pow.{pow-mono}
+use lib.Seq.{getD-set-same, getD-set-other}
+use Rattle.columns.specs.Bound.{columnBound}
+use Rattle.columns.specs.Set.{setBelow}
+use Rattle.columns.specs.Test.{pick}
+use Rattle.model.specs.View.{View, Equivalence}
+use Rattle.model.proofs.Truth.{eqb-is}
+use Rattle.table.specs.Words.{word, Closed}
+use Rattle.table.specs.Broken.{Occurs, Table}
+use Rattle.table.proofs.Scan.{noted-scanned}
+use Rattle.table.proofs.Table.{scanned-closed-table}
+use Rattle.planes.specs.Bits.{planeBit, planeWord}
+use Rattle.planes.specs.Cache.{seedWords, Sown}
+use Rattle.planes.proofs.Answers.{sown-kept}
+use Rattle.planes.proofs.Bits.{power-words}
+use Rattle.planes.proofs.Seeds.{gathered-seeds}
+use Rattle.leaders.specs.Keys.{keyView, Keyed}
+use Rattle.leaders.proofs.Keys.{key-equivalence, keyed-table, keyed-seeds}
+use Rattle.scan.specs.Lines.{Seen, seenAt, Written, notedWord}
+use Rattle.scan.proofs.Lines.{or-next}
+
+-- words one after the other
+pub written-none : (f : ℕ → ℕ) (ws : List ℕ) → Written f 0 ws ws
+written-none f ws = record { same-length = refl; words = λ i l. absurd (omega arith) }
+
+pub written-more : {f : ℕ → ℕ} {m : ℕ} {before ws : List ℕ} (x : ℕ) → m < length ws → x ≡ f m
+    → Written f m before ws → Written f (m + 1) before (set ws m x)
+written-more {f} {m} {before} {ws} x l e h =
+    record { same-length = simp length-set (h .same-length); words = λ i k. at i k (ℕ-discrete i m) }
+  where
+    at : (i : ℕ) → i < m + 1 → Dec (i ≡ m) → word (set ws m x) i ≡ f i
+    at i k (yes u) = subst (λ (j : ℕ). word (set ws m x) j ≡ f j) (sym u) (getD-set-same ws m x 0 l ∙ e)
+    at i k (no d) = getD-set-other ws m i x 0 d ∙ h .words i (omega arith)
+
+pub written-all : {f : ℕ → ℕ} {k : ℕ} {before ws : List ℕ} (m : ℕ) → k ≡ m → Written f k before ws → Written f m before ws
+written-all {f} {k} {before} {ws} m e h = subst (λ (m : ℕ). Written f m before ws) e h
+
+-- what an agree set breaks
+pub set-inside : (n s e : ℕ) → n ≤ columnBound → e ≡ 2 ^ n → s < e → s < 2 ^ columnBound
+set-inside n s e h is l = omega (arith, pow-mono {i = n} {j = columnBound} h)
+
+pub set-fits : (n m s e p : ℕ) → e ≡ 2 ^ n → p ≡ 2 ^ m → s < e → n ≤ m → s ≤ p - 1
+set-fits n m s e p is next l h = omega (arith, pow-mono {i = n} {j = m} h)
+
+pub noted-is : (seen : List ℕ) (n s p r : ℕ) → p ≡ 2 ^ (n + 1) → r ≡ pick (seenAt seen s) (p - 1 - s) 0 → r ≡ notedWord seen n s
+noted-is seen n s p r next e =
+    e ∙ ap (λ (p : ℕ). pick (seenAt seen s) (p - 1 - s) 0) (next ∙ ap (λ (k : ℕ). 2 ^ k) (add-one n))
+
+-- the bits of 32 agree sets: the first j are gathered
+pub record Gathering (seen : List ℕ) (i j w : ℕ) : Type 0 where
+  pub few : j ≤ 32
+  pub bits : w ≡ setBelow j (λ j. seenAt seen (i * 32 + j))
+
+pub gathering-none : (seen : List ℕ) (i : ℕ) → Gathering seen i 0 0
+unfolding setBelow
+gathering-none seen i = record { few = omega arith; bits = refl }
+
+pub gathering-more : {seen : List ℕ} {i j w p r : ℕ} → j < 32 → p ≡ 2 ^ j → r ≡ pick (seenAt seen (i * 32 + j)) p 0
+    → Gathering seen i j w → Gathering seen i (j + 1) (bitOr w r)
+gathering-more {seen} {i} {j} {w} {p} {r} l is g h =
+    let f : ℕ → Bool = λ j. seenAt seen (i * 32 + j) in
+    record { few = omega arith; bits = or-next f j (j + 1) w r refl (h .bits) (g ∙ ap (λ (p : ℕ). pick (f j) p 0) is) }
+
+pub gathering-all : {seen : List ℕ} {i j w : ℕ} → 32 ≤ j → Gathering seen i j w → w ≡ planeWord (seenAt seen) i
+gathering-all {seen} {i} {j} l h =
+    let all : j ≡ 32 = omega (arith, h .few) in
+    h .bits ∙ ap (λ (k : ℕ). setBelow k (λ j. seenAt seen (i * 32 + j))) all
+
+pub seed-inside : (n i e : ℕ) → 5 ≤ n → n ≤ columnBound → e ≡ 2 ^ (n - 5) → i < e → i * 32 < 2 ^ columnBound
+seed-inside n i e h b is l = omega (arith, power-words n h, pow-mono {i = n} {j = columnBound} b)
+
+-- no pair is cached: the count behind the seeds is 0
+pub none-cached : (n m : ℕ) (ws : List ℕ) → m ≡ seedWords n → m + 4 ≤ length ws → word (set ws (m + 1) 0) (seedWords n + 1) ≡ 0
+none-cached n m ws is l = subst (λ (k : ℕ). word (set ws (m + 1) 0) (k + 1) ≡ 0) is (getD-set-same ws (m + 1) 0 0 (omega arith))
+
+-- the bytes as tests
+module _ {keys seen : List ℕ} {n end : ℕ} (seen-is : Seen keys n end seen) where
+  tests : (s : ℕ) → T (seenAt seen s) ↔ Occurs (keyView keys n end) s
+  tests s =
+      let is = eqb-is (word seen s) 1 in
+      (λ t. seen-is .occurs s .0 (is .0 t), λ f. is .1 (seen-is .occurs s .1 f))
+
+  -- written and closed, the words are the table
+  pub built : {before mid after : List ℕ} → n ≤ columnBound → Written (notedWord seen n) (2 ^ n) before mid → Closed n mid after
+      → (v : View) → Keyed v (2 ^ n - 1) n end keys → Table v after
+  built {before} {mid} {after} few written closed v keyed =
+      keyed-table keyed after
+      (scanned-closed-table (keyView keys n end) mid after (key-equivalence keys n end) few
+      (noted-scanned (keyView keys n end) (seenAt seen) mid (λ s l. tests s) (written .words)) closed)
+
+  -- gathered, they are the seeds, whatever is stored behind them
+  pub sown : {before mid : List ℕ} (m : ℕ) → 5 ≤ n → m ≡ seedWords n → Written (planeWord (seenAt seen)) (seedWords n) before mid
+      → (v : View) → Keyed v (2 ^ n - 1) n end keys → Equivalence v → Sown v n (set mid (m + 1) 0)
+  sown {before} {mid} m h is written v keyed eq =
+      sown-kept v n mid (set mid (m + 1) 0) h (λ i k. getD-set-other mid (m + 1) i 0 0 (λ u. omega arith))
+      (record {
+        members = keyed .members;
+        equivalence = eq;
+        seeds = keyed-seeds keyed (λ s. planeBit mid s ≡ 1)
+            (gathered-seeds (keyView keys n end) (seenAt seen) mid (λ s l. tests s)
+            (λ i l. written .words i (omega (arith, power-words n h))));
+      })

@@ -1,0 +1,40 @@
+// The table of broken rights: what each agree set that occurs breaks, closed over smaller left sides.
+ghost use Prim.Native.Nat.{_-_, _^_, _≤_};
+ghost use lib.ListN.{length};
+ghost use Rattle.columns.specs.Bound.{columnBound};
+ghost use Rattle.model.specs.Bounds.{rowBound};
+ghost use Rattle.model.specs.View.{View};
+ghost use Rattle.table.specs.Broken.{Table};
+ghost use Rattle.leaders.specs.Keys.{Keyed};
+ghost use Rattle.scan.specs.Lines.{Written, notedWord};
+use crate::SETS;
+use crate::pairs::if_seen;
+use crate::pairs::occurring;
+use bits::power;
+use leaders::SIZE;
+use table::close;
+
+// Writes what each agree set that is seen breaks.
+fn note_broken(seen: &[u8; SETS], n: u32, words: &mut [u32])
+    requires { ⌜ (n ≤ columnBound) × (2 ^ n ≤ length (now words)) ⌝ }
+    ensures { λ _. ⌜ Written (notedWord (now (seen .entry)) n) (2 ^ n) (now (words .entry)) (now (words .exit)) ⌝ }
+{
+    let all = power(n + 1) - 1;
+    let end = power(n);
+    let mut s: u32 = 0;
+    while s < end {
+        words[s as usize] = if_seen(seen[s as usize], all - s);
+        s += 1;
+    }
+}
+
+// The table of broken rights of the view that the keys are laid for: bit a of word x is 1 exactly if the left side x does not give right a.
+pub fn build(keys: &[u16; SIZE], n: u32, end: usize, words: &mut [u32])
+    requires { ⌜ (n ≤ columnBound) × (end ≤ rowBound) × (2 ^ n ≤ length (now words)) ⌝ }
+    ensures { λ _. ⌜ ((v : View) → Keyed v (2 ^ n - 1) n end (now (keys .entry)) → Table v (now (words .exit))) ⌝ }
+{
+    let mut seen = [0; SETS];
+    occurring(keys, n, end, &mut seen);
+    note_broken(&seen, n, words);
+    close(words, n);
+}

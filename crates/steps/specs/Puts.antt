@@ -1,0 +1,33 @@
+-- The contract of putting an entry.
+use Prim.Native.Nat.{ℕ, suc, _-_, _^_, _≤_, _<_}
+use Rattle.columns.specs.Bound.{columnBound}
+use Rattle.model.specs.Entry.{entry}
+use Rattle.rights.specs.Rights.{rightAt, lowest}
+use Rattle.walk.specs.declared.Walk.{Walk}
+use Rattle.steps.specs.declared.Stepped.{Stepped}
+use Rattle.steps.specs.declared.Stepped.the-variants.{Put}
+
+-- what is put fits a record, which has 8 bits for the target and the right side and 16 for the left, and some right is pending
+pub record Puts (w : Walk) : Type 0 where
+  pub target : w .target < 2 ^ 8
+  pub left : w .left < 2 ^ 16
+  pub members : w .members ≤ columnBound
+  pub some : 0 < w .pending
+  pub pending : w .pending < 2 ^ suc (w .members)
+
+-- the entry of the lowest pending right, and the walk without it
+unfoldable pub putFrom : Walk → Stepped
+putFrom w =
+    Put (entry (w .target) (w .left) (rightAt (w .members) (lowest (w .pending))))
+    (record {
+      target = w .target;
+      left = w .left;
+      members = w .members;
+      mode = w .mode;
+      place = w .place;
+      budget = w .budget;
+      room = w .room;
+      passed = w .passed;
+      count = w .count;
+      pending = w .pending - 2 ^ lowest (w .pending);
+    })

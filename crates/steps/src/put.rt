@@ -1,0 +1,36 @@
+// An entry that is put: the lowest right that is pending.
+ghost use mathlib.Core.Path.{_≡_};
+ghost use Rattle.steps.specs.Puts.{Puts, putFrom};
+use crate::Stepped;
+use bits::power;
+use model::Entry;
+use walk::Walk;
+
+// The entry of the lowest pending right, and the walk without it.
+pub fn put(w: Walk) -> Stepped
+    requires { ⌜ Puts w ⌝ }
+    ensures { λ r. ⌜ r ≡ putFrom w ⌝ }
+{
+    let m = w.pending;
+    let k = u32::trailing_zeros(m);
+    let right = rights::right_at(w.members, k);
+    Stepped::Put(
+        Entry {
+            target: w.target as u8,
+            right: right as u8,
+            left: w.left as u16,
+        },
+        Walk {
+            target: w.target,
+            left: w.left,
+            members: w.members,
+            mode: w.mode,
+            place: w.place,
+            budget: w.budget,
+            room: w.room,
+            passed: w.passed,
+            count: w.count,
+            pending: m - power(k),
+        },
+    )
+}

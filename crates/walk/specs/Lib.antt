@@ -1,0 +1,3 @@
+pub mod Stands
+pub mod Meaning
+pub mod Walks
