@@ -13,7 +13,12 @@
 //! the one before it of three; in a line the last column is a function of its table's first and the root's
 //! first. So most dependencies with small left sides break, some hold, and keys are larger in the `-few`
 //! shapes. That matters to TANE, whose work grows with the size of the keys; the table's does not. Rows stand
-//! in document order: parent rows ascend.
+//! in document order: parent rows ascend. `nested-16` is a line of 16 tables with one column and 4,096 rows each, whose
+//! last column is a function of the root's. In `one-chain` all codes of a column fall into one chain of the
+//! library's grouping of rows, the worst that can happen to it.
+//!
+//! Questions are asked of the last table: with a small left side and with one of eight columns, of a column and of
+//! the row. A call of budget 1 is timed beside one of budget 2, at three places of the last table.
 
 use compare::random::{Draft, DraftTable, Random};
 use compare::simple::{self, Catalogue, Entry, MISSING, NO_PARENT, ROW, WORK_WORDS};
