@@ -10,7 +10,7 @@ use native.Mathlib.Omega.{arith}
 use lib.Bits.{bitOr}
 use lib.Dec.{T}
 use lib.ListN.{length, set, length-set}
-use lib.Pow.{pow-mono}
+use lib.Pow.{pow-mono, pow-pos}
 use lib.Seq.{getD-set-same, getD-set-other}
 use Rattle.columns.specs.Bound.{columnBound}
 use Rattle.columns.specs.Set.{setBelow}
@@ -28,8 +28,8 @@ use Rattle.planes.proofs.Bits.{power-words}
 use Rattle.planes.proofs.Seeds.{gathered-seeds}
 use Rattle.leaders.specs.Keys.{keyView, Keyed}
 use Rattle.leaders.proofs.Keys.{key-equivalence, keyed-table, keyed-seeds}
-use Rattle.scan.specs.Lines.{Seen, seenAt, Written, notedWord}
-use Rattle.scan.proofs.Lines.{or-next}
+use Rattle.scan.specs.Seen.{Seen, seenAt, Written, notedWord}
+use Rattle.lines.proofs.Lines.{or-next}
 
 -- words one after the other
 pub written-none : (f : ℕ → ℕ) (ws : List ℕ) → Written f 0 ws ws
@@ -46,6 +46,10 @@ written-more {f} {m} {before} {ws} x l e h =
 
 pub written-all : {f : ℕ → ℕ} {k : ℕ} {before ws : List ℕ} (m : ℕ) → k ≡ m → Written f k before ws → Written f m before ws
 written-all {f} {k} {before} {ws} m e h = subst (λ (m : ℕ). Written f m before ws) e h
+
+-- a power of two is at least 1
+pub power-some : (n p : ℕ) → p ≡ 2 ^ n → 1 ≤ p
+power-some n p e = omega (arith, pow-pos n)
 
 -- what an agree set breaks
 pub set-inside : (n s e : ℕ) → n ≤ columnBound → e ≡ 2 ^ n → s < e → s < 2 ^ columnBound
@@ -71,7 +75,7 @@ pub gathering-more : {seen : List ℕ} {i j w p r : ℕ} → j < 32 → p ≡ 2 
     → Gathering seen i j w → Gathering seen i (j + 1) (bitOr w r)
 gathering-more {seen} {i} {j} {w} {p} {r} l is g h =
     let f : ℕ → Bool = λ j. seenAt seen (i * 32 + j) in
-    record { few = omega arith; bits = or-next f j (j + 1) w r refl (h .bits) (g ∙ ap (λ (p : ℕ). pick (f j) p 0) is) }
+    record { few = omega arith; bits = or-next f j w r (h .bits) (g ∙ ap (λ (p : ℕ). pick (f j) p 0) is) ∙ ap (λ (i : ℕ). setBelow i f) (sym (add-one j)) }
 
 pub gathering-all : {seen : List ℕ} {i j w : ℕ} → 32 ≤ j → Gathering seen i j w → w ≡ planeWord (seenAt seen) i
 gathering-all {seen} {i} {j} l h =

@@ -6,7 +6,7 @@ ghost use Rattle.model.specs.Bounds.{rowBound};
 ghost use Rattle.model.specs.View.{View};
 ghost use Rattle.table.specs.Broken.{Table};
 ghost use Rattle.leaders.specs.Keys.{Keyed};
-ghost use Rattle.scan.specs.Lines.{Written, notedWord};
+ghost use Rattle.scan.specs.Seen.{Written, notedWord};
 use crate::SETS;
 use crate::pairs::if_seen;
 use crate::pairs::occurring;

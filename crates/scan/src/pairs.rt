@@ -7,11 +7,24 @@ ghost use Rattle.columns.specs.Bound.{columnBound};
 ghost use Rattle.columns.specs.Test.{pick};
 ghost use Rattle.model.specs.Bounds.{rowBound};
 ghost use Rattle.table.specs.Words.{word};
-ghost use Rattle.scan.specs.Lines.{Noted, Blank, Seen};
+ghost use Rattle.scan.specs.Seen.{NotedOne, Noted, Blank, Seen};
 use crate::SETS;
-use crate::line::line_of;
+use classes::number;
 use leaders::ROWS;
 use leaders::SIZE;
+use lines::line_of;
+
+// Notes an agree set. Most are noted already, and a test takes less time than a store.
+fn note(seen: &mut [u8; SETS], s: u16)
+    requires { ⌜ (s < 2 ^ columnBound) × (length (now seen) ≡ 2 ^ columnBound) ⌝ }
+    ensures { λ _. ⌜ NotedOne s (now (seen .entry)) (now (seen .exit)) ⌝ }
+{
+    let at = s as usize;
+    if seen[at] == 1 {
+        return;
+    }
+    seen[at] = 1;
+}
 
 // Notes the agree sets of a line.
 fn note_line(seen: &mut [u8; SETS], line: &[u16; ROWS], from: usize, end: usize)
@@ -21,7 +34,7 @@ fn note_line(seen: &mut [u8; SETS], line: &[u16; ROWS], from: usize, end: usize)
 {
     let mut q = from;
     while q < end {
-        seen[line[q] as usize] = 1;
+        note(seen, line[q]);
         q += 1;
     }
 }
@@ -32,10 +45,14 @@ pub fn occurring(keys: &[u16; SIZE], n: u32, end: usize, seen: &mut [u8; SETS])
     requires { ⌜ Blank (now seen) ⌝ }
     ensures { λ _. ⌜ Seen (now (keys .entry)) n end (now (seen .exit)) ⌝ }
 {
+    let mut bytes = [0u8; SIZE];
+    let few = number(keys, n, end, &mut bytes);
+    let mut low = [0u8; ROWS];
+    let mut high = [0u8; ROWS];
+    let mut line = [0u16; ROWS];
     let mut x: usize = 0;
     while x < end {
-        let mut line = [0; ROWS];
-        line_of(keys, n, x, end, &mut line);
+        line_of(keys, &bytes, few, n, x, end, &mut low, &mut high, &mut line);
         note_line(seen, &line, x + 1, end);
         x += 1;
     }

@@ -9,7 +9,7 @@ ghost use Rattle.table.specs.Words.{word};
 ghost use Rattle.planes.specs.Bits.{planeWord};
 ghost use Rattle.planes.specs.Cache.{seedWords, Sown};
 ghost use Rattle.leaders.specs.Keys.{Keyed};
-ghost use Rattle.scan.specs.Lines.{Written, seenAt};
+ghost use Rattle.scan.specs.Seen.{Written, seenAt};
 use crate::SETS;
 use crate::pairs::if_seen;
 use crate::pairs::occurring;

@@ -3,9 +3,8 @@ use Prim.Native.Nat.{_-_, _≤_, _<_}
 use native.Mathlib.Omega.{arith}
 use borrow.Author.Needs.{needs}
 use lib.ListN.{length}
-use Rattle.scan.specs.Lines.{Written, notedWord}
-use Rattle.scan.proofs.Lines.{power-some}
-use Rattle.scan.proofs.Writing.{written-none, written-more, written-all, set-inside, set-fits, noted-is}
+use Rattle.scan.specs.Seen.{Written, notedWord}
+use Rattle.scan.proofs.Writing.{power-some, written-none, written-more, written-all, set-inside, set-fits, noted-is}
 use Rattle.scan.proofs.broken.note_broken.Statement.{statement}
 use Rattle.scan.proofs.broken.note_broken.Tie as tie
 

@@ -1,9 +1,10 @@
 -- `scan::note_line` meets its contract. The invariant: the sets below q are noted.
 use Prim.Native.Nat.{_-_, _≤_}
+use mathlib.Core.Path.{_∙_}
 use native.Mathlib.Omega.{arith}
-use borrow.Author.Needs.{needs}
-use Rattle.scan.specs.Lines.{Noted}
+use Rattle.scan.specs.Seen.{Noted}
 use Rattle.scan.proofs.Seeing.{noted-none, noted-more, noted-all}
+use borrow.Author.Needs.{needs}
 use Rattle.scan.proofs.pairs.note_line.Statement.{statement}
 use Rattle.scan.proofs.pairs.note_line.Tie as tie
 
@@ -16,17 +17,17 @@ abbrev μ-loop : tie.MeasureT-loop
 loop-holds : tie.Need-loop-holds Inv-loop μ-loop
 loop-holds c = (omega arith, omega arith, noted-none _ _ _)
 
-mul-seen : tie.Need-mul-seen Inv-loop μ-loop
-mul-seen c = search needs
+mul-note : tie.Need-mul-note Inv-loop μ-loop
+mul-note c = search needs
 
-element-copy-out-seen : tie.Need-element-copy-out-seen Inv-loop μ-loop
-element-copy-out-seen c = search needs
+element-copy-out-note : tie.Need-element-copy-out-note Inv-loop μ-loop
+element-copy-out-note c = search needs
 
-cast-seen : tie.Need-cast-seen Inv-loop μ-loop
-cast-seen c = omega (arith, c .before .before .before .pre .1 _ (c .before .before .loop .inv .0) (c .before .loop-test .taken))
-
-element-write-seen : tie.Need-element-write-seen Inv-loop μ-loop
-element-write-seen c = c .before .before .before .pre .1 _ (c .before .before .loop .inv .0) (c .before .loop-test .taken)
+note-requires : tie.Need-note-requires Inv-loop μ-loop
+note-requires c κs =
+    let l = c .before .before .before .loop .inv in
+    let h = c .before .before .before .before .pre in
+    (h .1 _ (l .0) (c .before .before .loop-test .taken), l .2 .same-length ∙ h .0 .2)
 
 add-q : tie.Need-add-q Inv-loop μ-loop
 add-q c = search needs
@@ -36,8 +37,8 @@ loop-less c = search needs
 
 loop-again : tie.Need-loop-again Inv-loop μ-loop
 loop-again c =
-    let l = c .before .before .loop .inv in
-    (omega (arith, l .0), omega arith, noted-more (l .0) (omega (arith, l .2 .same-length, c .before .before .before .pre .1 _ (c .before .before .loop .inv .0) (c .before .loop-test .taken))) (l .2))
+    let l = c .before .before .before .before .loop .inv in
+    (omega (arith, l .0), omega arith, noted-more (l .0) (c .note .ensures) (l .2))
 
 returns : tie.Need-returns Inv-loop μ-loop
 returns c = noted-all (omega arith) (omega (arith, c .before .loop .inv .1)) (c .before .loop .inv .2)
@@ -49,10 +50,9 @@ note-line-spec =
     Inv-loop
     μ-loop
     loop-holds
-    mul-seen
-    element-copy-out-seen
-    cast-seen
-    element-write-seen
+    mul-note
+    element-copy-out-note
+    note-requires
     add-q
     loop-less
     loop-again

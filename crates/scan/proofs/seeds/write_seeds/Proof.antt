@@ -4,7 +4,7 @@ use native.Mathlib.Omega.{arith}
 use borrow.Author.Needs.{needs}
 use lib.ListN.{length}
 use Rattle.planes.specs.Bits.{planeWord}
-use Rattle.scan.specs.Lines.{seenAt, Written}
+use Rattle.scan.specs.Seen.{seenAt, Written}
 use Rattle.scan.proofs.Writing.{written-none, written-more, written-all, seed-inside}
 use Rattle.scan.proofs.seeds.write_seeds.Statement.{statement}
 use Rattle.scan.proofs.seeds.write_seeds.Tie as tie

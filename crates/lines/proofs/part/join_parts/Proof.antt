@@ -1,0 +1,78 @@
+-- `lines::part::join_parts` meets its contract. The invariant: the rows below q are written.
+use Prim.Native.Nat.{ℕ, _+_, _-_, _*_}
+use mathlib.Core.Path.{ap₂}
+use native.Mathlib.Omega.{arith}
+use Rattle.lines.specs.Lines.{Over, joinedAt}
+use Rattle.lines.proofs.Lines.{over-begun, over-more, over-done}
+use borrow.Author.Needs.{needs}
+use Rattle.lines.proofs.part.join_parts.Statement.{statement}
+use Rattle.lines.proofs.part.join_parts.Tie as tie
+
+abbrev Inv-loop : tie.InvT-loop
+Inv-loop x end low high line₀ q₀ line q = Over (joinedAt low high) x q line
+
+abbrev μ-loop : tie.MeasureT-loop
+μ-loop x end low high line₀ q₀ line q = end - q
+
+add-q : tie.Need-add-q Inv-loop μ-loop
+add-q c = search needs
+
+loop-holds : tie.Need-loop-holds Inv-loop μ-loop
+loop-holds c = over-begun _ _ _ (c .pre .2)
+
+element-copy-out-wide : tie.Need-element-copy-out-wide Inv-loop μ-loop
+element-copy-out-wide c = search needs
+
+wide-requires : tie.Need-wide-requires Inv-loop μ-loop
+wide-requires c κs = search needs
+
+element-copy-out-wide-2 : tie.Need-element-copy-out-wide-2 Inv-loop μ-loop
+element-copy-out-wide-2 c = search needs
+
+wide-requires-2 : tie.Need-wide-requires-2 Inv-loop μ-loop
+wide-requires-2 c κs = search needs
+
+mul-line : tie.Need-mul-line Inv-loop μ-loop
+mul-line c = search needs
+
+add-line : tie.Need-add-line Inv-loop μ-loop
+add-line c = search needs
+
+mul-line-2 : tie.Need-mul-line-2 Inv-loop μ-loop
+mul-line-2 c = search needs
+
+element-write-line : tie.Need-element-write-line Inv-loop μ-loop
+element-write-line c = search needs
+
+add-q-2 : tie.Need-add-q-2 Inv-loop μ-loop
+add-q-2 c = search needs
+
+loop-less : tie.Need-loop-less Inv-loop μ-loop
+loop-less c = search needs
+
+loop-again : tie.Need-loop-again Inv-loop μ-loop
+loop-again c = over-more _ (omega arith) (ap₂ (λ (a b : ℕ). a + 256 * b) (c .before .before .wide .ensures .0) (c .wide2 .ensures .0)) (c .before .before .before .before .before .loop .inv)
+
+returns : tie.Need-returns Inv-loop μ-loop
+returns c = over-done (omega arith) (c .before .loop .inv)
+
+pub join-parts-spec : {M : Type 1} → statement M
+join-parts-spec =
+    tie.close
+    (tie.spec
+    Inv-loop
+    μ-loop
+    add-q
+    loop-holds
+    element-copy-out-wide
+    wide-requires
+    element-copy-out-wide-2
+    wide-requires-2
+    mul-line
+    add-line
+    mul-line-2
+    element-write-line
+    add-q-2
+    loop-less
+    loop-again
+    returns)
