@@ -8,7 +8,8 @@
 //! read before, all buffers are allocated and written beforehand, and the work words hold noise at the start of
 //! every library call. The peers' listings include reading the catalogue and allocating their memory.
 //!
-//! Codes are drawn evenly from a range of values, by column 2 to 64, or 2 to 8 in the shapes named `-few`. One
+//! Codes are drawn evenly from a range of values, by column 2 to 64, or 2 to 8 in the shapes named `-few` and 300 to
+//! 1,500 in those named `-many`, where no column has so few classes of rows that a byte tells them apart. One
 //! cell in a hundred is missing in two columns. In a flat shape the last column is a function of two others and
 //! the one before it of three; in a line the last column is a function of its table's first and the root's
 //! first. So most dependencies with small left sides break, some hold, and keys are larger in the `-few`
@@ -51,6 +52,7 @@ struct Shape {
 type Ranges = [usize; 16];
 const MODERATE: Ranges = [2, 3, 4, 5, 6, 8, 10, 12, 16, 20, 24, 32, 48, 64, 40, 56];
 const FEW: Ranges = [2, 3, 2, 3, 4, 5, 4, 5, 6, 5, 6, 7, 8, 8, 6, 8];
+const MANY: Ranges = [300, 320, 350, 380, 400, 450, 500, 550, 600, 650, 700, 800, 900, 1_000, 1_200, 1_500];
 
 fn code(random: &mut Random, ranges: &Ranges, column: usize) -> u32 {
     if (column == 8 || column == 11) && random.once_in(100) {
@@ -147,9 +149,10 @@ fn root_code(draft: &Draft, table: usize, row: usize) -> u32 {
     }
 }
 
-const SHAPES: [&str; 9] = [
+const SHAPES: [&str; 10] = [
     "flat-4096x16",
     "flat-4096x16-few",
+    "flat-4096x16-many",
     "line-4",
     "line-4-few",
     "nested-16",
@@ -163,6 +166,7 @@ fn shape(name: &str) -> Option<Shape> {
     match name {
         "flat-4096x16" => Some(flat("flat-4096x16", 4_096, 16, &MODERATE)),
         "flat-4096x16-few" => Some(flat("flat-4096x16-few", 4_096, 16, &FEW)),
+        "flat-4096x16-many" => Some(flat("flat-4096x16-many", 4_096, 16, &MANY)),
         "line-4" => Some(line("line-4", &LINE, &MODERATE)),
         "line-4-few" => Some(line("line-4-few", &LINE, &FEW)),
         "nested-16" => Some(line("nested-16", &NESTED, &MODERATE)),

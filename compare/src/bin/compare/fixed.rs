@@ -15,6 +15,7 @@ pub fn run(trial: &mut Trial) -> Outcome {
     for (columns, rows) in [(16, 0), (16, 1), (16, 3), (17, 1), (0, ROWS), (0, ROWS + 1), (2, ROWS), (2, ROWS + 1)] {
         flat(trial, columns, rows)?;
     }
+    classes(trial)?;
     line(trial)
 }
 
@@ -93,6 +94,24 @@ fn flat(trial: &mut Trial, columns: usize, rows: usize) -> Outcome {
     let rows = (0..rows).map(|_| row()).collect();
     let file = Draft { tables: vec![DraftTable { columns, parent: NO_PARENT, rows }] }.file();
     whole(trial, &file)
+}
+
+/// One table of 300 rows whose columns have few classes of rows, or 255 to 300 of them, some with missing cells, each a
+/// class of its own: the library tells classes by a byte where there are at most 256.
+fn classes(trial: &mut Trial) -> Outcome {
+    let mut random = Random::new(300);
+    let values = [2, 255, 256, 257, 3, 300, 2, 4, 250, 250];
+    let missing = [0, 0, 0, 0, 0, 0, 1, 0, 6, 7];
+    let mut row = |k: usize| {
+        let code = |(values, missing): (usize, usize)| match k {
+            k if k < missing => MISSING,
+            _ if values < 250 => random.below(values) as u32,
+            k => ((k - missing) % values) as u32,
+        };
+        (NO_PARENT, values.into_iter().zip(missing).map(code).collect())
+    };
+    let rows = (0..300).map(|k| row(k)).collect();
+    whole(trial, &Draft { tables: vec![DraftTable { columns: values.len(), parent: NO_PARENT, rows }] }.file())
 }
 
 /// A line of four tables with 16 visible columns, some cells missing at every level.

@@ -3,8 +3,8 @@
 //!     compare [CATALOGUES] [SEED]
 //!
 //! CATALOGUES (20,000 if not given) are made from the seeds SEED, SEED + 1, and so on (from 1 if not given),
-//! after the fixed cases. A difference is printed with its seed and catalogue, and ends the run with status 1;
-//! `compare 1 SEED` repeats it.
+//! after the fixed cases, on as many threads as there are processors. A difference is printed with its seed and
+//! catalogue, and ends the run with status 1; `compare 1 SEED` repeats it.
 
 mod catalogues;
 mod fixed;
@@ -13,9 +13,11 @@ mod packed;
 mod questions;
 mod trial;
 
+use std::ops::Range;
 use std::process::exit;
+use std::thread::{available_parallelism, scope};
 use std::time::Instant;
-use trial::Trial;
+use trial::{Seen, Trial};
 
 /// A line is printed after so many catalogues: it tells where a crash happened.
 const PROGRESS: u64 = 2_000;
@@ -37,14 +39,13 @@ fn main() {
     let mut trial = Trial::new();
     let result = fixed::run(&mut trial);
     end_on_difference(&trial, "fixed cases", result);
-    for seed in first..first + count {
-        trial.start(seed);
-        let result = catalogues::run(&mut trial);
-        end_on_difference(&trial, &format!("seed {seed}"), result);
-        if (seed - first) % PROGRESS == PROGRESS - 1 {
-            println!("seeds {first} to {seed} alike, {:.1} s", start.elapsed().as_secs_f64());
-        }
-    }
+    let workers = available_parallelism().map_or(1, |number| number.get() as u64);
+    scope(|threads| {
+        let bounds = |worker: u64| first + count * worker / workers;
+        let seeds = (0..workers).map(|worker| bounds(worker)..bounds(worker + 1));
+        let running: Vec<_> = seeds.map(|seeds| threads.spawn(move || catalogues_of(seeds, start))).collect();
+        running.into_iter().for_each(|thread| trial.seen.add(&thread.join().unwrap()));
+    });
     let complete = count >= 1_000;
     trial.seen.print();
     if complete && !trial.seen.all() {
@@ -52,6 +53,21 @@ fn main() {
         exit(1);
     }
     println!("{count} catalogues from seed {first}, no difference, {:.1} s", start.elapsed().as_secs_f64());
+}
+
+/// Compares the catalogues of some seeds.
+fn catalogues_of(seeds: Range<u64>, start: Instant) -> Seen {
+    let mut trial = Trial::new();
+    let first = seeds.start;
+    for seed in seeds {
+        trial.start(seed);
+        let result = catalogues::run(&mut trial);
+        end_on_difference(&trial, &format!("seed {seed}"), result);
+        if (seed - first) % PROGRESS == PROGRESS - 1 {
+            println!("seeds {first} to {seed} alike, {:.1} s", start.elapsed().as_secs_f64());
+        }
+    }
+    trial.seen
 }
 
 fn end_on_difference(trial: &Trial, which: &str, result: Result<(), String>) {

@@ -111,6 +111,12 @@ impl Seen {
         *self.answers.entry(name).or_default() += 1;
     }
 
+    /// What occurred elsewhere as well.
+    pub fn add(&mut self, other: &Seen) {
+        self.refusals.iter_mut().zip(other.refusals).for_each(|(count, more)| *count += more);
+        other.answers.iter().for_each(|(name, more)| *self.answers.entry(name).or_default() += more);
+    }
+
     pub fn all(&self) -> bool {
         self.refusals[1..].iter().all(|count| *count > 0) && ANSWERS.iter().all(|name| self.answers.contains_key(name))
     }
