@@ -1,4 +1,3 @@
-pub mod Put
 pub mod Grants
 pub mod Walk
 pub mod Climb

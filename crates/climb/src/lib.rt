@@ -1,16 +1,13 @@
 // Not for callers: the climb from a target to the root. The rows that the target's rows lead to, one step for all of them at a time, and numbers of the
 // catalogue by one load each, with no test, where the caller knows that they are within the bytes; proofs/ has the laws of agreement on the way up.
-// Relies on the definitions of `model` and on laws of `layout`. Called by `keys`.
+// Relies on the definitions of `model` and on laws of `layout` and `filled`. Called by `keys`.
 ghost use Prim.Native.Nat.{ℕ, _+_, _*_, _≤_, _<_};
 ghost use mathlib.Core.Path.{_≡_};
 ghost use lib.ListN.{length, getD};
 ghost use Rattle.model.specs.Bounds.{rowBound};
 ghost use Rattle.model.specs.Bytes.{u16At, u32At};
-ghost use Rattle.climb.specs.Put.{Put};
-use model::ROW_BOUND;
-
-// How many rows there are room for.
-const ROWS: usize = ROW_BOUND as usize;
+ghost use Rattle.filled.specs.Filled.{Filled};
+use model::ROWS;
 
 // A byte as a wider number.
 fn wide(x: u8) -> u16
@@ -46,7 +43,7 @@ pub fn index(x: u16) -> usize
 // Each row leads to itself.
 pub fn own_rows(end: usize, reached: &mut [u16; ROWS])
     requires { ⌜ (end ≤ rowBound) × (length (now reached) ≡ rowBound) ⌝ }
-    ensures { λ _. ⌜ Put 0 end (λ (q : ℕ). q) (now (reached .entry)) (now (reached .exit)) ⌝ }
+    ensures { λ _. ⌜ Filled 0 end (λ (q : ℕ). q) (now (reached .entry)) (now (reached .exit)) ⌝ }
 {
     let mut row: usize = 0;
     while row < end {
@@ -60,7 +57,7 @@ pub fn parent_rows(b: &[u8], o: usize, width: usize, end: usize, reached: &mut [
     requires { ⌜ (end ≤ rowBound) × (length (now reached) ≡ rowBound) ⌝ }
     requires { ⌜ ((q : ℕ) → q < end → o + getD (now reached) q 0 * width + 2 ≤ length (now b)) ⌝ }
     ensures { λ _.
-        ⌜ Put 0 end (λ (q : ℕ). u16At (now (b .entry)) (o + getD (now (reached .entry)) q 0 * width)) (now (reached .entry))
+        ⌜ Filled 0 end (λ (q : ℕ). u16At (now (b .entry)) (o + getD (now (reached .entry)) q 0 * width)) (now (reached .entry))
         (now (reached .exit)) ⌝ }
 {
     let mut q: usize = 0;

@@ -1,14 +1,15 @@
 -- Laws of grouping: no row has its leader yet, one row more has, and all have.
 use Prim.Native.Nat.{ℕ, _+_, _≤_, _<_}
-use mathlib.Core.Path.{_≡_, refl, sym, ap, subst, _∙_}
+use mathlib.Core.Path.{_≡_, refl, ap, subst, _∙_}
 use mathlib.Core.List.{List}
 use native.Mathlib.Decide.{ℕ-discrete}
 use native.Mathlib.Omega.{arith}
-use lib.ListN.{length, getD, set, replicate, length-set}
+use lib.ListN.{length, getD, replicate, length-set}
 use lib.Seq.{getD-set-same, getD-set-other}
 use Rattle.columns.proofs.Test.{ifEq-yes, ifEq-no}
 use Rattle.model.specs.Bounds.{rowBound}
 use Rattle.leaders.specs.Keys.{firstSame}
+use Rattle.filled.proofs.Below.{below-more}
 use Rattle.grouping.specs.Chains.{chains, Chained, Placed}
 use Rattle.grouping.specs.Grouped.{Grouped}
 use Rattle.grouping.proofs.Chains.{chained-begun}
@@ -47,25 +48,18 @@ module _ (ws : List ℕ) (q : ℕ) (heads links before after : List ℕ) (r : �
   grouped-more : (n : ℕ) → q < rowBound → Grouped ws q before n → Grouped ws (q + 1) after (n + r)
   grouped-more n l g = record {
     long = ap length (placed .leader) ∙ length-set before q (firstSame ws q) ∙ g .long;
-    leaders = λ p i. ap (λ (out : List ℕ). getD out p 0) (placed .leader) ∙ leader p i (ℕ-discrete p q);
+    leaders = λ p i.
+        ap (λ (out : List ℕ). getD out p 0) (placed .leader)
+        ∙ below-more (λ r j. getD-set-other before q r (firstSame ws q) 0 (λ e. omega arith) ∙ g .leaders r j)
+        (getD-set-same before q (firstSame ws q) 0 (omega (arith, g .long))) p i;
     alone = (
-      λ e p i. lead e p i (ℕ-discrete p q),
+      λ e. below-more (g .alone .0 (omega arith)) (c .1 (omega arith)),
       λ h. let z = c .2 (h q (omega arith)) in let y = g .alone .1 (λ p i. h p (omega arith)) in omega arith,
     );
   }
     where
       c : (r ≤ 1) × (r ≡ 0 → firstSame ws q ≡ q) × (firstSame ws q ≡ q → r ≡ 0)
       c = counts (ℕ-discrete (firstSame ws q) q)
-
-      leader : (p : ℕ) → p < q + 1 → Dec (p ≡ q) → getD (set before q (firstSame ws q)) p 0 ≡ firstSame ws p
-      leader p i (yes e) =
-          subst (λ (s : ℕ). getD (set before q (firstSame ws q)) s 0 ≡ firstSame ws s) (sym e)
-          (getD-set-same before q (firstSame ws q) 0 (omega (arith, g .long)))
-      leader p i (no d) = getD-set-other before q p (firstSame ws q) 0 d ∙ g .leaders p (omega arith)
-
-      lead : n + r ≡ 0 → (p : ℕ) → p < q + 1 → Dec (p ≡ q) → firstSame ws p ≡ p
-      lead e p i (yes s) = subst (λ (t : ℕ). firstSame ws t ≡ t) (sym s) (c .1 (omega arith))
-      lead e p i (no d) = g .alone .0 (omega arith) p (omega arith)
 
   pub grouping-more : {end : ℕ} {heads₀ links₀ : List ℕ} {n : ℕ} → q < end → Grouping ws end q heads₀ links₀ before n
       → Grouping ws end (q + 1) heads links after (n + r)

@@ -1,6 +1,6 @@
 // Not for callers: rows grouped by one word each. The leader of a row is the lowest row with the same word; it is found in chains of the leaders
 // so far, one chain for each value of a hash of the words, and words are compared exactly.
-// Relies on the definitions and laws of `leaders`. Called by `keys` and `partition`.
+// Relies on the definitions and laws of `leaders` and on a law of `filled`. Called by `keys` and `partition`.
 ghost use Prim.Native.Nat.{_+_, _≤_, _<_};
 ghost use mathlib.Core.Path.{_≡_};
 ghost use lib.ListN.{getD, length};

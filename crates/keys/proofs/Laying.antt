@@ -20,8 +20,8 @@ use Rattle.leaders.specs.Leaders.{leaderOf}
 use Rattle.leaders.specs.Keys.{keysSize, keyAt, LaidFor}
 use Rattle.leaders.proofs.Leaders.{firstFrom-same}
 use Rattle.leaders.proofs.Keys.{agreeOn-one, same-test}
-use Rattle.climb.specs.Put.{Put}
-use Rattle.climb.proofs.Put.{put-first}
+use Rattle.filled.specs.Filled.{Filled}
+use Rattle.filled.proofs.Filled.{filled-first}
 use Rattle.climb.proofs.Grants.{Grants}
 use Rattle.climb.proofs.Climb.{agree-own, agree-above, visible-parts, inherited-root, inherited-step, row-within}
 use Rattle.keys.specs.Column.{codeOf, agreeBy, leaderBy, LaidTable}
@@ -40,7 +40,7 @@ pub record Laying (b : List ℕ) (t set at above : ℕ) (reached keys : List ℕ
   pub laid : (k q : ℕ) → above ≤ k → k < visible b t → In k set → q < rows b t → keyAt keys k q ≡ leaderOf (view b t) (2 ^ k) q
 
 pub laying-begun : (b : List ℕ) (t n set end : ℕ) (before reached keys : List ℕ) → t < tables b → n ≡ visible b t → end ≡ rows b t
-    → length before ≡ rowBound → length keys ≡ keysSize → Put 0 end (λ q. q) before reached → Laying b t set t n reached keys
+    → length before ≡ rowBound → length keys ≡ keysSize → Filled 0 end (λ q. q) before reached → Laying b t set t n reached keys
 laying-begun b t n set end before reached keys h e f wide long put = record {
   table = h;
   left = e;
@@ -53,7 +53,7 @@ laying-begun b t n set end before reached keys h e f wide long put = record {
 }
   where
     own : (q : ℕ) → q < rows b t → getD reached q 0 ≡ q
-    own q l = put-first put q (omega arith)
+    own q l = filled-first put q (omega arith)
 
 -- to agree on the left side of one member, as a test
 agreeOn-member : (v : View) (k p q : ℕ) → k < v .members → agreeOn v (2 ^ k) p q ≡ v .agree k p q
@@ -156,7 +156,7 @@ module _ (b : List ℕ) (s : Grants b) {t set at above : ℕ} {reached keys : Li
 
   pub laying-next : (end up : ℕ) (after moved : List ℕ) → end ≡ rows b t → LaidTable b o c (above - c) reached end set 0 keys after
       → (set % 2 ^ (above - c) ≡ 0 → ⊥) → up ≡ u16At b (o + 2)
-      → Put 0 end (λ q. u16At b (o + 6 + getD reached q 0 * (2 + 4 * c))) reached moved
+      → Filled 0 end (λ q. u16At b (o + 6 + getD reached q 0 * (2 + 4 * c))) reached moved
       → Laying b t set up (above - c) moved after
   laying-next end up after moved g m some u put =
       let n = not-root some in
@@ -178,4 +178,4 @@ module _ (b : List ℕ) (s : Grants b) {t set at above : ℕ} {reached keys : Li
       })
     where
       leads : (q : ℕ) → q < rows b t → getD moved q 0 ≡ parentRow b at (getD reached q 0)
-      leads q l = put-first put q (omega arith) ∙ parent-row-at (getD reached q 0)
+      leads q l = filled-first put q (omega arith) ∙ parent-row-at (getD reached q 0)

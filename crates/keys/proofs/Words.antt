@@ -13,8 +13,9 @@ use Rattle.model.specs.Bounds.{rowBound, missing}
 use Rattle.model.specs.Target.{cellsAgree}
 use Rattle.leaders.specs.Keys.{firstSame}
 use Rattle.leaders.proofs.Leaders.{firstFrom-same}
-use Rattle.climb.specs.Put.{Put}
-use Rattle.climb.proofs.Put.{put-begun, put-more, put-first}
+use Rattle.filled.specs.Filled.{Filled}
+use Rattle.filled.proofs.Below.{below-more}
+use Rattle.filled.proofs.Filled.{filled-none, filled-more, filled-first}
 use Rattle.keys.specs.Column.{codeOf, agreeBy, leaderBy, wordOf, Words}
 
 -- the word of a missing cell is beyond all codes, and that of another is its code
@@ -66,33 +67,29 @@ words-same f x y lx ly = at (ℕ-discrete x y)
 
 -- the words of the rows below q, filled one after the other
 pub record Filling (b : List ℕ) (from width : ℕ) (reached : List ℕ) (q : ℕ) (before words : List ℕ) : Type 0 where
-  pub put : Put 0 q (λ p. wordOf (codeOf b from width (getD reached p 0)) (getD reached p 0)) before words
+  pub put : Filled 0 q (λ p. wordOf (codeOf b from width (getD reached p 0)) (getD reached p 0)) before words
   pub small : (p : ℕ) → p < q → codeOf b from width (getD reached p 0) ≤ missing
 
 pub filling-begun : (b : List ℕ) (from width : ℕ) (reached before : List ℕ) → Filling b from width reached 0 before before
-filling-begun b from width reached before = record { put = put-begun _ _ _; small = λ p l. absurd (omega arith) }
+filling-begun b from width reached before = record { put = filled-none; small = λ p l. absurd (omega arith) }
 
 pub filling-more : (b : List ℕ) (from width : ℕ) (reached : List ℕ) (q : ℕ) (before words : List ℕ) (code x : ℕ) → q < length before
     → code ≡ codeOf b from width (getD reached q 0) → code ≤ missing → x ≡ wordOf code (getD reached q 0)
     → Filling b from width reached q before words → Filling b from width reached (q + 1) before (set words q x)
 filling-more b from width reached q before words code x l e s f h =
     record {
-      put = put-more 0 q q _ before words x (omega arith) l (f ∙ ap (λ (z : ℕ). wordOf z (getD reached q 0)) e) (h .put);
-      small = λ p k. at p k (ℕ-discrete p q);
+      put = filled-more (h .put) (omega arith) l (f ∙ ap (λ (z : ℕ). wordOf z (getD reached q 0)) e);
+      small = below-more (h .small) (omega arith);
     }
-  where
-    at : (p : ℕ) → p < q + 1 → Dec (p ≡ q) → codeOf b from width (getD reached p 0) ≤ missing
-    at p k (yes g) = omega (arith, ap (λ (z : ℕ). codeOf b from width (getD reached z 0)) g)
-    at p k (no n) = h .small p (omega arith)
 
-pub filled : (b : List ℕ) (from width : ℕ) (reached : List ℕ) (end q : ℕ) (before words : List ℕ) → length before ≡ rowBound → end ≤ q
+pub filling-done : (b : List ℕ) (from width : ℕ) (reached : List ℕ) (end q : ℕ) (before words : List ℕ) → length before ≡ rowBound → end ≤ q
     → Filling b from width reached q before words → Words b from width reached end words
 unfolding agreeBy
-filled b from width reached end q before words long l h =
+filling-done b from width reached end q before words long l h =
     record {
       long = h .put .same-length ∙ long;
       same = λ p r lp lr.
-          ap₂ eqb (put-first (h .put) p (omega arith)) (put-first (h .put) r (omega arith))
+          ap₂ eqb (filled-first (h .put) p (omega arith)) (filled-first (h .put) r (omega arith))
           ∙ words-same (codeOf b from width) (getD reached p 0) (getD reached r 0) (h .small p (omega arith)) (h .small r (omega arith));
     }
 

@@ -6,7 +6,7 @@ ghost use lib.ListN.{length, getD};
 ghost use Rattle.columns.specs.Bound.{columnBound};
 ghost use Rattle.model.specs.Bounds.{rowBound};
 ghost use Rattle.leaders.specs.Keys.{keysSize};
-ghost use Rattle.climb.specs.Put.{Put};
+ghost use Rattle.filled.specs.Filled.{Filled};
 ghost use Rattle.keys.specs.Column.{wordOf, Words};
 use climb::code_at;
 use climb::index;
@@ -48,7 +48,7 @@ pub fn fill_words(
 // Copies the leaders of one member into its place.
 pub fn put_keys(k: usize, end: usize, leaders: &[u16; ROWS], keys: &mut [u16; SIZE])
     requires { ⌜ (k < columnBound) × (end ≤ rowBound) × (length (now keys) ≡ keysSize) ⌝ }
-    ensures { λ _. ⌜ Put (k * rowBound) end (λ (q : ℕ). getD (now (leaders .entry)) q 0) (now (keys .entry)) (now (keys .exit)) ⌝ }
+    ensures { λ _. ⌜ Filled (k * rowBound) end (λ (q : ℕ). getD (now (leaders .entry)) q 0) (now (keys .entry)) (now (keys .exit)) ⌝ }
 {
     let at = k * ROWS;
     let mut row: usize = 0;

@@ -1,6 +1,7 @@
 // Not for callers: the keys of a target's members, laid from the catalogue. The key of a row on a member is the lowest row that agrees with it
 // there, so above the keys nothing looks at codes, missing cells or ancestor rows.
-// Relies on `layout` for what stands where and on `grouping` for rows grouped by words. Called by `rights` and `dependency`.
+// Relies on `layout` for what stands where, on `climb` for the rows reached, on `grouping` for rows grouped by words, and on the laws of `leaders` and
+// `filled`. Called by `rights` and `dependency`.
 mod column;
 
 ghost use Prim.Native.Nat.{ℕ, _+_, _*_, _^_, _≤_, _<_};

@@ -3,7 +3,7 @@
 // if their leaders, or their keys, are equal: above the keys nothing looks at codes, missing cells or ancestor rows.
 // Relies on the definitions of `model` and `table`. Its laws are cited by `grouping`, `keys`, `partition`, `scan`, `rights` and `dependency`.
 
-// How many rows a target can have, and how many keys there are room for: `rowBound` and `keysSize` are the same numbers in the definitions.
-pub const ROWS: usize = model::ROW_BOUND as usize;
+pub use model::ROWS;
 
+// How many keys there is room for: `keysSize` is the same number in the definitions.
 pub const SIZE: usize = columns::COLUMN_BOUND as usize * ROWS;

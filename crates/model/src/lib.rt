@@ -7,6 +7,9 @@ pub const TABLE_BOUND: u32 = 16;
 
 pub const ROW_BOUND: u32 = 4096;
 
+// The same bound as the length of an array: how many rows there is room for.
+pub const ROWS: usize = ROW_BOUND as usize;
+
 pub const WORK_BOUND: usize = 16384;
 
 // How many bytes the listing program reads at most.

@@ -1,6 +1,6 @@
 // Not for callers: the partition of the rows by a left side, from keys alone. The rows that agree on the left side have one leader, and the left side
 // gives a right exactly if every row agrees with its leader there: one pass over the rows for each member and each right, and none over pairs of rows.
-// Relies on `grouping` for the leaders by one number a row, and on the laws of `leaders`. Called by `rights`, `search` and `dependency`.
+// Relies on `grouping` for the leaders by one number a row, and on the laws of `leaders` and `filled`. Called by `rights`, `search` and `dependency`.
 ghost use mathlib.Core.Path.{_≡_};
 ghost use mathlib.Core.Logic.{_↔_};
 ghost use mathlib.Core.Bool.{true};

@@ -28,24 +28,10 @@ use Rattle.planes.proofs.Bits.{power-words}
 use Rattle.planes.proofs.Seeds.{gathered-seeds}
 use Rattle.leaders.specs.Keys.{keyView, Keyed}
 use Rattle.leaders.proofs.Keys.{key-equivalence, keyed-table, keyed-seeds}
-use Rattle.scan.specs.Seen.{Seen, seenAt, Written, notedWord}
+use Rattle.scan.specs.Seen.{Seen, seenAt, notedWord}
 use Rattle.lines.proofs.Lines.{or-next}
-
--- words one after the other
-pub written-none : (f : ℕ → ℕ) (ws : List ℕ) → Written f 0 ws ws
-written-none f ws = record { same-length = refl; words = λ i l. absurd (omega arith) }
-
-pub written-more : {f : ℕ → ℕ} {m : ℕ} {before ws : List ℕ} (x : ℕ) → m < length ws → x ≡ f m
-    → Written f m before ws → Written f (m + 1) before (set ws m x)
-written-more {f} {m} {before} {ws} x l e h =
-    record { same-length = simp length-set (h .same-length); words = λ i k. at i k (ℕ-discrete i m) }
-  where
-    at : (i : ℕ) → i < m + 1 → Dec (i ≡ m) → word (set ws m x) i ≡ f i
-    at i k (yes u) = subst (λ (j : ℕ). word (set ws m x) j ≡ f j) (sym u) (getD-set-same ws m x 0 l ∙ e)
-    at i k (no d) = getD-set-other ws m i x 0 d ∙ h .words i (omega arith)
-
-pub written-all : {f : ℕ → ℕ} {k : ℕ} {before ws : List ℕ} (m : ℕ) → k ≡ m → Written f k before ws → Written f m before ws
-written-all {f} {k} {before} {ws} m e h = subst (λ (m : ℕ). Written f m before ws) e h
+use Rattle.filled.specs.Filled.{Filled}
+use Rattle.filled.proofs.Filled.{filled-first}
 
 -- a power of two is at least 1
 pub power-some : (n p : ℕ) → p ≡ 2 ^ n → 1 ≤ p
@@ -97,15 +83,15 @@ module _ {keys seen : List ℕ} {n end : ℕ} (seen-is : Seen keys n end seen) w
       (λ t. seen-is .occurs s .0 (is .0 t), λ f. is .1 (seen-is .occurs s .1 f))
 
   -- written and closed, the words are the table
-  pub built : {before mid after : List ℕ} → n ≤ columnBound → Written (notedWord seen n) (2 ^ n) before mid → Closed n mid after
+  pub built : {before mid after : List ℕ} → n ≤ columnBound → Filled 0 (2 ^ n) (notedWord seen n) before mid → Closed n mid after
       → (v : View) → Keyed v (2 ^ n - 1) n end keys → Table v after
   built {before} {mid} {after} few written closed v keyed =
       keyed-table keyed after
       (scanned-closed-table (keyView keys n end) mid after (key-equivalence keys n end) few
-      (noted-scanned (keyView keys n end) (seenAt seen) mid (λ s l. tests s) (written .words)) closed)
+      (noted-scanned (keyView keys n end) (seenAt seen) mid (λ s l. tests s) (filled-first written)) closed)
 
   -- gathered, they are the seeds, whatever is stored behind them
-  pub sown : {before mid : List ℕ} (m : ℕ) → 5 ≤ n → m ≡ seedWords n → Written (planeWord (seenAt seen)) (seedWords n) before mid
+  pub sown : {before mid : List ℕ} (m : ℕ) → 5 ≤ n → m ≡ seedWords n → Filled 0 (seedWords n) (planeWord (seenAt seen)) before mid
       → (v : View) → Keyed v (2 ^ n - 1) n end keys → Equivalence v → Sown v n (set mid (m + 1) 0)
   sown {before} {mid} m h is written v keyed eq =
       sown-kept v n mid (set mid (m + 1) 0) h (λ i k. getD-set-other mid (m + 1) i 0 0 (λ u. omega arith))
@@ -114,5 +100,5 @@ module _ {keys seen : List ℕ} {n end : ℕ} (seen-is : Seen keys n end seen) w
         equivalence = eq;
         seeds = keyed-seeds keyed (λ s. planeBit mid s ≡ 1)
             (gathered-seeds (keyView keys n end) (seenAt seen) mid (λ s l. tests s)
-            (λ i l. written .words i (omega (arith, power-words n h))));
+            (λ i l. filled-first written i (omega (arith, power-words n h))));
       })

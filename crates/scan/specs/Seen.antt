@@ -37,11 +37,6 @@ seenAt seen s = eqb (word seen s) 1
 pub record Seen (keys : List ℕ) (n end : ℕ) (seen : List ℕ) : Type 0 where
   pub occurs : (s : ℕ) → (word seen s ≡ 1) ↔ Occurs (keyView keys n end) s
 
--- the first m words are rewritten, as f says
-pub record Written (f : ℕ → ℕ) (m : ℕ) (before after : List ℕ) : Type 0 where
-  pub same-length : length after ≡ length before
-  pub words : (i : ℕ) → i < m → word after i ≡ f i
-
 -- what the agree set s breaks, of n members, if it is seen
 abbrev pub notedWord : List ℕ → ℕ → ℕ → ℕ
 notedWord seen n s = pick (seenAt seen s) (brokenBy n s) 0

@@ -6,7 +6,8 @@ ghost use Rattle.model.specs.Bounds.{rowBound};
 ghost use Rattle.model.specs.View.{View};
 ghost use Rattle.table.specs.Broken.{Table};
 ghost use Rattle.leaders.specs.Keys.{Keyed};
-ghost use Rattle.scan.specs.Seen.{Written, notedWord};
+ghost use Rattle.filled.specs.Filled.{Filled};
+ghost use Rattle.scan.specs.Seen.{notedWord};
 use crate::SETS;
 use crate::pairs::if_seen;
 use crate::pairs::occurring;
@@ -17,7 +18,7 @@ use table::close;
 // Writes what each agree set that is seen breaks.
 fn note_broken(seen: &[u8; SETS], n: u32, words: &mut [u32])
     requires { ⌜ (n ≤ columnBound) × (2 ^ n ≤ length (now words)) ⌝ }
-    ensures { λ _. ⌜ Written (notedWord (now (seen .entry)) n) (2 ^ n) (now (words .entry)) (now (words .exit)) ⌝ }
+    ensures { λ _. ⌜ Filled 0 (2 ^ n) (notedWord (now (seen .entry)) n) (now (words .entry)) (now (words .exit)) ⌝ }
 {
     let all = power(n + 1) - 1;
     let end = power(n);

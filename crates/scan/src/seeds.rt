@@ -9,7 +9,8 @@ ghost use Rattle.table.specs.Words.{word};
 ghost use Rattle.planes.specs.Bits.{planeWord};
 ghost use Rattle.planes.specs.Cache.{seedWords, Sown};
 ghost use Rattle.leaders.specs.Keys.{Keyed};
-ghost use Rattle.scan.specs.Seen.{Written, seenAt};
+ghost use Rattle.filled.specs.Filled.{Filled};
+ghost use Rattle.scan.specs.Seen.{seenAt};
 use crate::SETS;
 use crate::pairs::if_seen;
 use crate::pairs::occurring;
@@ -34,7 +35,7 @@ fn gathered(seen: &[u8; SETS], i: u32) -> u32
 // Writes the bits of all agree sets of n members.
 fn write_seeds(seen: &[u8; SETS], n: u32, words: &mut [u32])
     requires { ⌜ (5 ≤ n) × (n ≤ columnBound) × (seedWords n ≤ length (now words)) ⌝ }
-    ensures { λ _. ⌜ Written (planeWord (seenAt (now (seen .entry)))) (seedWords n) (now (words .entry)) (now (words .exit)) ⌝ }
+    ensures { λ _. ⌜ Filled 0 (seedWords n) (planeWord (seenAt (now (seen .entry)))) (now (words .entry)) (now (words .exit)) ⌝ }
 {
     let end = power(n - 5);
     let mut i: u32 = 0;

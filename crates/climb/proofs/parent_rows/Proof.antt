@@ -6,19 +6,19 @@ use denote.Ref.{now}
 use borrow.Author.Needs.{needs}
 use lib.ListN.{length, getD}
 use Rattle.model.specs.Bytes.{u16At}
-use Rattle.climb.specs.Put.{Put}
-use Rattle.climb.proofs.Put.{put-begun, put-more, put-moved}
+use Rattle.filled.specs.Filled.{Filled}
+use Rattle.filled.proofs.Filled.{filled-none, filled-more, filled-moved}
 use Rattle.climb.proofs.parent_rows.Statement.{statement}
 use Rattle.climb.proofs.parent_rows.Tie as tie
 
 abbrev Inv-loop : tie.InvT-loop
-Inv-loop b o width end reached₀ q₀ reached q = (q ≤ end) × Put 0 q (λ p. u16At b (o + getD reached₀ p 0 * width)) reached₀ reached
+Inv-loop b o width end reached₀ q₀ reached q = (q ≤ end) × Filled 0 q (λ p. u16At b (o + getD reached₀ p 0 * width)) reached₀ reached
 
 abbrev μ-loop : tie.MeasureT-loop
 μ-loop b o width end reached₀ q₀ reached q = end - q
 
 loop-holds : tie.Need-loop-holds Inv-loop μ-loop
-loop-holds c = (omega arith, put-begun _ _ _)
+loop-holds c = (omega arith, filled-none)
 
 mul-index : tie.Need-mul-index Inv-loop μ-loop
 mul-index c = search needs
@@ -71,14 +71,12 @@ loop-again c =
     let a = c .before .before .before .before .before .before .args in
     let l = c .before .before .before .before .loop in (
       omega arith,
-      put-more 0 (l .q) (l .q) (λ (p : ℕ). u16At (now (a .b)) (a .o + getD (now (a .reached)) p 0 * a .width)) _ _ _ (omega arith)
-          (omega arith)
-          (c .short-at .ensures ∙ ap (λ (x : ℕ). u16At (now (a .b)) (a .o + x * a .width)) (row (c .before)))
-          (l .inv .1),
+      filled-more (l .inv .1) (omega arith) (omega arith)
+          (c .short-at .ensures ∙ ap (λ (x : ℕ). u16At (now (a .b)) (a .o + x * a .width)) (row (c .before))),
     )
 
 returns : tie.Need-returns Inv-loop μ-loop
-returns c = put-moved (omega arith) (c .before .loop .inv .1)
+returns c = filled-moved (omega arith) (c .before .loop .inv .1)
 
 pub parent-rows-spec : {M : Type 1} → statement M
 parent-rows-spec =

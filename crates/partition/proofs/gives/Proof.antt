@@ -4,8 +4,8 @@ use mathlib.Core.Path.{refl}
 use native.Mathlib.Omega.{arith}
 use borrow.Author.Needs.{needs}
 use Rattle.model.proofs.Truth.{true-is, false-is}
+use Rattle.filled.proofs.Below.{below-more}
 use Rattle.partition.specs.Partition.{Gives}
-use Rattle.partition.proofs.Below.{below-more}
 use Rattle.partition.proofs.gives.Statement.{statement}
 use Rattle.partition.proofs.gives.Tie as tie
 

@@ -1,37 +1,27 @@
 -- `partition::join` meets its contract. The invariant: the words of the rows below q are made.
-use Prim.Native.Nat.{ℕ, _+_, _-_, _≤_, _<_}
-use mathlib.Core.Path.{_≡_}
+use Prim.Native.Nat.{ℕ, _-_, _≤_, _<_}
 use mathlib.Core.List.{List}
 use native.Mathlib.Omega.{arith}
-use lib.ListN.{length, getD, set, length-set, length-replicate}
+use lib.ListN.{getD, length-replicate}
 use borrow.Author.Needs.{needs}
 use Rattle.model.specs.Bounds.{rowBound}
 use Rattle.leaders.specs.Keys.{keyAt}
+use Rattle.filled.specs.Filled.{Filled}
+use Rattle.filled.proofs.Below.{below-more}
+use Rattle.filled.proofs.Filled.{filled-none, filled-more, filled-first}
 use Rattle.partition.specs.Partition.{keyBound, wordOf}
-use Rattle.partition.proofs.Below.{written-more}
 use Rattle.partition.proofs.Leading.{led-joined}
 use Rattle.partition.proofs.join.Statement.{statement}
 use Rattle.partition.proofs.join.Tie as tie
 
--- the word of a row, whose key is short
-abbrev IsWord : List ℕ → ℕ → List ℕ → ℕ → ℕ → Type 0
-IsWord keys k leaders q w = (keyAt keys k q < keyBound) × (w ≡ wordOf (getD leaders q 0) (keyAt keys k q))
-
-record Words (keys : List ℕ) (k end : ℕ) (leaders ws : List ℕ) (q : ℕ) : Type 0 where
+-- the words of the rows below q are made, and their keys are short
+record Words (keys : List ℕ) (k end : ℕ) (leaders before ws : List ℕ) (q : ℕ) : Type 0 where
   pub within : q ≤ end
-  pub long : length ws ≡ rowBound
-  pub words : (i : ℕ) → i < q → IsWord keys k leaders i (getD ws i 0)
-
-more : (keys : List ℕ) (k end : ℕ) (leaders ws : List ℕ) (q w : ℕ) → Words keys k end leaders ws q → end ≤ rowBound → q < end
-    → IsWord keys k leaders q w → Words keys k end leaders (set ws q w) (q + 1)
-more keys k end leaders ws q w f h l e = record {
-  within = omega arith;
-  long = simp length-set (f .long);
-  words = written-more (IsWord keys k leaders) ws q w (omega (arith, f .long)) (f .words) e;
-}
+  pub words : Filled 0 q (λ i. wordOf (getD leaders i 0) (keyAt keys k i)) before ws
+  pub small : (i : ℕ) → i < q → keyAt keys k i < keyBound
 
 abbrev Inv-loop : tie.InvT-loop
-Inv-loop keys k end leaders at words₀ q₀ words q = Words keys k end leaders words q
+Inv-loop keys k end leaders at words₀ q₀ words q = Words keys k end leaders words₀ words q
 
 abbrev μ-loop : tie.MeasureT-loop
 μ-loop keys k end leaders at words₀ q₀ words q = end - q
@@ -40,7 +30,7 @@ mul-at : tie.Need-mul-at Inv-loop μ-loop
 mul-at c = search needs
 
 loop-holds : tie.Need-loop-holds Inv-loop μ-loop
-loop-holds c = record { within = omega arith; long = length-replicate {A = ℕ} rowBound 0; words = λ i l. absurd (omega arith) }
+loop-holds c = record { within = omega arith; words = filled-none; small = λ i l. absurd (omega arith) }
 
 mul-word : tie.Need-mul-word Inv-loop μ-loop
 mul-word c = search needs
@@ -74,8 +64,12 @@ loop-less c = search needs
 
 loop-again : tie.Need-loop-again Inv-loop μ-loop
 loop-again c =
-    let l = c .before .before .before .before in
-    more _ _ _ _ _ _ _ (l .loop .inv) (l .before .pre .1 .0) (c .before .before .before .loop-test .taken) (c .word .ensures)
+    let f = c .before .before .before .before .loop .inv in
+    record {
+      within = omega arith;
+      words = filled-more (f .words) (omega arith) (omega (arith, length-replicate {A = ℕ} rowBound 0)) (c .word .ensures .1);
+      small = below-more (f .small) (c .word .ensures .0);
+    }
 
 group-requires : tie.Need-group-requires Inv-loop μ-loop
 group-requires c κs = search needs
@@ -83,7 +77,7 @@ group-requires c κs = search needs
 returns : tie.Need-returns Inv-loop μ-loop
 returns c =
     let f = c .before .before .before .before .loop .inv in
-    λ x s i led. led-joined _ _ x _ _ s led _ _ _ i (λ q l. f .words q (omega arith)) (c .group .ensures)
+    λ x s i led. led-joined _ _ x _ _ s led _ _ _ i (λ q l. (f .small q (omega arith), filled-first (f .words) q (omega arith))) (c .group .ensures)
 
 pub join-spec : {M : Type 1} → statement M
 join-spec =

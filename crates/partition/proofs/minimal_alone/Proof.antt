@@ -12,8 +12,8 @@ use Rattle.table.specs.Words.{lackingOf}
 use Rattle.table.specs.Broken.{rightsMask}
 use Rattle.table.proofs.Bits.{bit-none}
 use Rattle.leaders.specs.Keys.{keyView}
+use Rattle.filled.proofs.Below.{below-more}
 use Rattle.partition.specs.Partition.{Given, Spares, Needs}
-use Rattle.partition.proofs.Below.{below-more}
 use Rattle.partition.proofs.Rights.{needed-rights}
 use Rattle.partition.proofs.minimal_alone.Statement.{statement}
 use Rattle.partition.proofs.minimal_alone.Tie as tie

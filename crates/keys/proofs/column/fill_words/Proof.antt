@@ -5,7 +5,7 @@ use native.Mathlib.Omega.{arith}
 use denote.Ref.{now}
 use lib.ListN.{length}
 use Rattle.keys.specs.Column.{codeOf}
-use Rattle.keys.proofs.Words.{Filling, filling-begun, filling-more, filled}
+use Rattle.keys.proofs.Words.{Filling, filling-begun, filling-more, filling-done}
 use borrow.Author.Needs.{needs}
 use Rattle.keys.proofs.column.fill_words.Statement.{statement}
 use Rattle.keys.proofs.column.fill_words.Tie as tie
@@ -77,7 +77,7 @@ loop-again c =
 returns : tie.Need-returns Inv-loop μ-loop
 returns c =
     let a = c .before .before .before .args in
-    filled (now (a .b)) (a .from) (a .width) (now (a .reached)) (a .end) _ _ _ (c .before .before .before .pre .0 .1) (omega arith)
+    filling-done (now (a .b)) (a .from) (a .width) (now (a .reached)) (a .end) _ _ _ (c .before .before .before .pre .0 .1) (omega arith)
     (c .before .loop .inv .1)
 
 pub fill-words-spec : {M : Type 1} → statement M

@@ -1,18 +1,17 @@
 -- `keys::column::put_keys` meets its contract. The invariant: the rows below one are copied. The measure is what is left of them.
-use Prim.Native.Nat.{ℕ, _-_, _*_, _≤_}
+use Prim.Native.Nat.{_-_, _*_, _≤_}
 use mathlib.Core.Path.{refl}
 use native.Mathlib.Omega.{arith}
-use denote.Ref.{now}
 use lib.ListN.{getD}
 use Rattle.model.specs.Bounds.{rowBound}
-use Rattle.climb.specs.Put.{Put}
-use Rattle.climb.proofs.Put.{put-begun, put-more, put-moved}
+use Rattle.filled.specs.Filled.{Filled}
+use Rattle.filled.proofs.Filled.{filled-none, filled-more, filled-moved}
 use borrow.Author.Needs.{needs}
 use Rattle.keys.proofs.column.put_keys.Statement.{statement}
 use Rattle.keys.proofs.column.put_keys.Tie as tie
 
 abbrev Inv-loop : tie.InvT-loop
-Inv-loop k end leaders keys₀ at row₀ keys row = (row ≤ end) × Put (k * rowBound) row (λ p. getD leaders p 0) keys₀ keys
+Inv-loop k end leaders keys₀ at row₀ keys row = (row ≤ end) × Filled (k * rowBound) row (λ p. getD leaders p 0) keys₀ keys
 
 abbrev μ-loop : tie.MeasureT-loop
 μ-loop k end leaders keys₀ at row₀ keys row = end - row
@@ -21,7 +20,7 @@ mul-at : tie.Need-mul-at Inv-loop μ-loop
 mul-at c = search needs
 
 loop-holds : tie.Need-loop-holds Inv-loop μ-loop
-loop-holds c = (omega arith, put-begun _ _ _)
+loop-holds c = (omega arith, filled-none)
 
 mul-keys : tie.Need-mul-keys Inv-loop μ-loop
 mul-keys c = search needs
@@ -45,15 +44,10 @@ loop-less : tie.Need-loop-less Inv-loop μ-loop
 loop-less c = search needs
 
 loop-again : tie.Need-loop-again Inv-loop μ-loop
-loop-again c =
-    let a = c .before .before .before .args in
-    let l = c .before .before .loop in (
-      omega arith,
-      put-more (a .k * rowBound) (l .row) _ (λ (p : ℕ). getD (now (a .leaders)) p 0) _ _ _ (omega arith) (omega arith) refl (l .inv .1),
-    )
+loop-again c = (omega arith, filled-more (c .before .before .loop .inv .1) (omega arith) (omega arith) refl)
 
 returns : tie.Need-returns Inv-loop μ-loop
-returns c = put-moved (omega arith) (c .before .loop .inv .1)
+returns c = filled-moved (omega arith) (c .before .loop .inv .1)
 
 pub put-keys-spec : {M : Type 1} → statement M
 put-keys-spec =

@@ -3,13 +3,15 @@ use Prim.Native.Nat.{_-_, _≤_, _<_}
 use native.Mathlib.Omega.{arith}
 use borrow.Author.Needs.{needs}
 use lib.ListN.{length}
-use Rattle.scan.specs.Seen.{Written, notedWord}
-use Rattle.scan.proofs.Writing.{power-some, written-none, written-more, written-all, set-inside, set-fits, noted-is}
+use Rattle.filled.specs.Filled.{Filled}
+use Rattle.filled.proofs.Filled.{filled-none, filled-more, filled-moved}
+use Rattle.scan.specs.Seen.{notedWord}
+use Rattle.scan.proofs.Writing.{power-some, set-inside, set-fits, noted-is}
 use Rattle.scan.proofs.broken.note_broken.Statement.{statement}
 use Rattle.scan.proofs.broken.note_broken.Tie as tie
 
 abbrev Inv-loop : tie.InvT-loop
-Inv-loop seen n words₀ all end s₀ words s = (s ≤ end) × Written (notedWord seen n) s words₀ words
+Inv-loop seen n words₀ all end s₀ words s = (s ≤ end) × Filled 0 s (notedWord seen n) words₀ words
 
 abbrev μ-loop : tie.MeasureT-loop
 μ-loop seen n words₀ all end s₀ words s = end - s
@@ -32,7 +34,7 @@ power-requires-2 : tie.Need-power-requires-2 Inv-loop μ-loop
 power-requires-2 c κs = search needs
 
 loop-holds : tie.Need-loop-holds Inv-loop μ-loop
-loop-holds c = (omega arith, written-none _ _)
+loop-holds c = (omega arith, filled-none)
 
 cast-if-seen : tie.Need-cast-if-seen Inv-loop μ-loop
 cast-if-seen c = search needs
@@ -62,13 +64,18 @@ loop-less : tie.Need-loop-less Inv-loop μ-loop
 loop-less c = search needs
 
 loop-again : tie.Need-loop-again Inv-loop μ-loop
-loop-again c = (omega arith, written-more _ (within c) (noted-is (c .before .before .before .before .before .before .before .args .seen .now) _ (c .before .before .before .loop .s) _ _ (c .before .before .before .before .before .power .ensures) (c .if-seen .ensures)) (c .before .before .before .loop .inv .1))
+loop-again c =
+    let h = c .before .before .before .loop .inv .1 in (
+      omega arith,
+      filled-more h (omega arith) (omega (arith, within c, h .same-length))
+          (noted-is (c .before .before .before .before .before .before .before .args .seen .now) _ (c .before .before .before .loop .s) _ _ (c .before .before .before .before .before .power .ensures) (c .if-seen .ensures)),
+    )
 
 same-length : tie.Need-same-length Inv-loop μ-loop
 same-length c = c .before .loop .inv .1 .same-length
 
 returns : tie.Need-returns Inv-loop μ-loop
-returns c = written-all _ (omega (arith, c .before .loop .inv .0, c .before .before .power2 .ensures)) (c .before .loop .inv .1)
+returns c = filled-moved (omega (arith, c .before .loop .inv .0, c .before .before .power2 .ensures)) (c .before .loop .inv .1)
 
 pub note-broken-spec : {M : Type 1} → statement M
 note-broken-spec =

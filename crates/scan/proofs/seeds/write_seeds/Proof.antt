@@ -4,13 +4,15 @@ use native.Mathlib.Omega.{arith}
 use borrow.Author.Needs.{needs}
 use lib.ListN.{length}
 use Rattle.planes.specs.Bits.{planeWord}
-use Rattle.scan.specs.Seen.{seenAt, Written}
-use Rattle.scan.proofs.Writing.{written-none, written-more, written-all, seed-inside}
+use Rattle.filled.specs.Filled.{Filled}
+use Rattle.filled.proofs.Filled.{filled-none, filled-more, filled-moved}
+use Rattle.scan.specs.Seen.{seenAt}
+use Rattle.scan.proofs.Writing.{seed-inside}
 use Rattle.scan.proofs.seeds.write_seeds.Statement.{statement}
 use Rattle.scan.proofs.seeds.write_seeds.Tie as tie
 
 abbrev Inv-loop : tie.InvT-loop
-Inv-loop seen n words₀ end i₀ words i = (i ≤ end) × Written (planeWord (seenAt seen)) i words₀ words
+Inv-loop seen n words₀ end i₀ words i = (i ≤ end) × Filled 0 i (planeWord (seenAt seen)) words₀ words
 
 abbrev μ-loop : tie.MeasureT-loop
 μ-loop seen n words₀ end i₀ words i = end - i
@@ -27,7 +29,7 @@ power-requires : tie.Need-power-requires Inv-loop μ-loop
 power-requires c κs = search needs
 
 loop-holds : tie.Need-loop-holds Inv-loop μ-loop
-loop-holds c = (omega arith, written-none _ _)
+loop-holds c = (omega arith, filled-none)
 
 gathered-requires : tie.Need-gathered-requires Inv-loop μ-loop
 gathered-requires c κs = seed-inside _ _ _ (c .before .before .before .before .pre .0) (c .before .before .before .before .pre .1) (c .before .before .power .ensures) (c .loop-test .taken)
@@ -48,13 +50,15 @@ loop-less : tie.Need-loop-less Inv-loop μ-loop
 loop-less c = search needs
 
 loop-again : tie.Need-loop-again Inv-loop μ-loop
-loop-again c = (omega arith, written-more _ (within c) (c .gathered .ensures) (c .before .before .loop .inv .1))
+loop-again c =
+    let h = c .before .before .loop .inv .1 in
+    (omega arith, filled-more h (omega arith) (omega (arith, within c, h .same-length)) (c .gathered .ensures))
 
 same-length : tie.Need-same-length Inv-loop μ-loop
 same-length c = c .before .loop .inv .1 .same-length
 
 returns : tie.Need-returns Inv-loop μ-loop
-returns c = written-all _ (omega (arith, c .before .loop .inv .0, c .before .before .power .ensures)) (c .before .loop .inv .1)
+returns c = filled-moved (omega (arith, c .before .loop .inv .0, c .before .before .power .ensures)) (c .before .loop .inv .1)
 
 pub write-seeds-spec : {M : Type 1} → statement M
 write-seeds-spec =
