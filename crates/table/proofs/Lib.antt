@@ -1,5 +1,6 @@
 pub mod Bits
 pub mod Closing
+pub mod Joining
 pub mod Reading
 pub mod Scan
 pub mod Table

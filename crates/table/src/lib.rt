@@ -2,25 +2,39 @@
 // set breaks, `close` carries it to every smaller left side, and `minimal_rights` reads a left side's rights off the closed
 // words.
 // Relies on the definitions of `model` and `columns`. Called by `planes`, `scan` and `rights`.
-ghost use Prim.Native.Nat.{ℕ, _^_, _≤_, _<_};
+ghost use Prim.Native.Nat.{ℕ, _+_, _^_, _≤_, _<_};
 ghost use mathlib.Core.Path.{_≡_};
 ghost use mathlib.Core.Logic.{_↔_};
 ghost use lib.ListN.{length};
 ghost use Rattle.columns.specs.Set.{bit};
-ghost use Rattle.table.specs.Words.{lackingOf, Joined, Closed, Read};
+ghost use Rattle.table.specs.Words.{lackingOf, BlockJoined, Joined, Closed, Read};
 use bits::power;
 
-// Joins one column: each word gets the bits of the word at its left side with column k.
+// Joins one block: each of the `column` words from `start` on gets the bits of the word that is `column` further on.
+fn join_block(words: &mut [u32], start: usize, column: usize)
+    requires { ⌜ start + column + column ≤ length (now words) ⌝ }
+    ensures { λ r. ⌜ BlockJoined start column (now (words .entry)) (now (words .exit)) ⌝ }
+{
+    let mut i = 0;
+    while i < column {
+        let x = start + i;
+        words[x] = words[x] | words[x + column];
+        i += 1;
+    }
+}
+
+// Joins one column, block by block: each word gets the bits of the word at its left side with column k. In a block of
+// the left sides that differ in columns up to k only, those without column k come first.
 fn join_column(words: &mut [u32], n: u32, k: u32)
     requires { ⌜ (n < 32) × (2 ^ n ≤ length (now words)) × (k < n) ⌝ }
     ensures { λ r. ⌜ Joined n k (now (words .entry)) (now (words .exit)) ⌝ }
 {
     let end = power(n) as usize;
     let column = power(k) as usize;
-    let mut x = 0;
-    while x < end {
-        words[x] = words[x] | words[x | column];
-        x += 1;
+    let mut start = 0;
+    while start < end {
+        join_block(words, start, column);
+        start = start + column + column;
     }
 }
 
