@@ -18,7 +18,8 @@ fn join_block(words: &mut [u32], start: usize, column: usize)
     let mut i = 0;
     while i < column {
         let x = start + i;
-        words[x] = words[x] | words[x + column];
+        let further = x + column;
+        words[x] = words[x] | words[further];
         i += 1;
     }
 }

@@ -50,7 +50,8 @@ returns c =
     let two = three .before .before .before .before in
     let one = two .before .before .before .before in
     eight-joined _ _ _ _ _ _ _ _ _ (search needs) (one .join-block .ensures) (two .join-block2 .ensures)
-    (three .join-block3 .ensures) (four .join-block4 .ensures) (five .join-block5 .ensures) (six .join-block6 .ensures) (seven .join-block7 .ensures)
+    (three .join-block3 .ensures) (four .join-block4 .ensures) (five .join-block5 .ensures)
+    (six .join-block6 .ensures) (seven .join-block7 .ensures)
 
 pub join-eight-spec : {M : Type 1} → statement M
 join-eight-spec =
