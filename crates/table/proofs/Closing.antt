@@ -1,108 +1,18 @@
 -- Joining the columns one after the other closes the words over larger left sides: after k columns the word of x has
 -- the bits of each left side that is x or larger and differs from x below column k only. Soundness and completeness,
 -- for every n.
-use Prim.Native.Nat.{ℕ, zero, suc, _+_, _^_, _≤_, _<_, max}
-use mathlib.Core.Path.{_≡_, refl, sym, ap, ap₂, _∙_, subst}
+use Prim.Native.Nat.{ℕ, zero, suc, _^_, _≤_, _<_, max}
+use mathlib.Core.Path.{_≡_, refl, sym, ap, _∙_, subst}
 use mathlib.Core.Logic.{_⊎_, inl, inr, ⊎-elim}
 use mathlib.Core.List.{List}
 use native.Mathlib.Decide.{ℕ-discrete}
 use native.Mathlib.Omega.{arith}
 use lib.Bits.{bitOr}
-use lib.ListN.{length, set, length-set}
-use lib.Seq.{getD-set-same, getD-set-other}
+use lib.ListN.{length}
 use Rattle.columns.specs.Set.{bit}
 use Rattle.columns.proofs.Bits.{bits-same, bit-past}
 use Rattle.table.specs.Words.{word, Above, Joined, Closed}
-use Rattle.table.proofs.Bits.{bit-or, or-ge-left, bit-with-same, bit-with-other, with-below}
-
--- one column, in place: the words below x are joined, and from x on they are as before
-pub record JoinedBelow (k x : ℕ) (before after : List ℕ) : Type 0 where
-  pub same-length : length after ≡ length before
-  pub joined : (y : ℕ) → y < x → word after y ≡ bitOr (word before y) (word before (bitOr y (2 ^ k)))
-  pub rest : (y : ℕ) → x ≤ y → word after y ≡ word before y
-
-join-begun : (k : ℕ) (ws : List ℕ) → JoinedBelow k 0 ws ws
-join-begun k ws = record { same-length = refl; joined = λ y l. absurd (omega arith); rest = λ y l. refl }
-
-join-more : (k x column : ℕ) (before after : List ℕ) → column ≡ 2 ^ k → x < length before
-    → JoinedBelow k x before after
-    → JoinedBelow k (x + 1) before (set after x (bitOr (word after x) (word after (bitOr x column))))
-join-more k x column before after c h j =
-    record {
-      same-length = length-set after x new ∙ j .same-length;
-      joined = λ y l. at y (omega arith) (ℕ-discrete y x);
-      rest = λ y l. getD-set-other after x y new 0 (λ e. omega arith) ∙ j .rest y (omega arith);
-    }
-  where
-    new : ℕ
-    new = bitOr (word after x) (word after (bitOr x column))
-
-    stored : word (set after x new) x ≡ bitOr (word before x) (word before (bitOr x (2 ^ k)))
-    stored =
-        getD-set-same after x new 0 (omega (arith, j .same-length))
-        ∙ ap₂ bitOr (j .rest x (omega arith))
-        (j .rest (bitOr x column) (or-ge-left x column) ∙ ap (λ (b : ℕ). word before (bitOr x b)) c)
-
-    at : (y : ℕ) → y ≤ x → Dec (y ≡ x)
-        → word (set after x new) y ≡ bitOr (word before y) (word before (bitOr y (2 ^ k)))
-    at y l (yes e) =
-        subst (λ (z : ℕ). word (set after x new) z ≡ bitOr (word before z) (word before (bitOr z (2 ^ k)))) (sym e)
-        stored
-    at y l (no n) = getD-set-other after x y new 0 n ∙ j .joined y (omega arith)
-
--- what the loop over the words knows: the column's power, the end, and the words below x joined
-pub record Joining (n k end column x : ℕ) (before after : List ℕ) : Type 0 where
-  pub up-to : x ≤ end
-  pub is-end : end ≡ 2 ^ n
-  pub is-column : column ≡ 2 ^ k
-  pub column-below : k < n
-  pub enough : 2 ^ n ≤ length before
-  pub words : JoinedBelow k x before after
-
-pub joining-begun : (n k end column : ℕ) (ws : List ℕ) → end ≡ 2 ^ n → column ≡ 2 ^ k → k < n → 2 ^ n ≤ length ws
-    → Joining n k end column 0 ws ws
-joining-begun n k end column ws e c h l =
-    record {
-      up-to = omega arith;
-      is-end = e;
-      is-column = c;
-      column-below = h;
-      enough = l;
-      words = join-begun k ws;
-    }
-
-pub joining-index : (n k end column x : ℕ) (before after : List ℕ) → x < end → Joining n k end column x before after
-    → bitOr x column < length after
-joining-index n k end column x before after h j =
-    let e = j .is-end in
-    let b = with-below n x k (omega arith) (j .column-below) in
-    let l = j .enough in
-    let s = j .words .same-length in
-    let r : bitOr x column ≡ bitOr x (2 ^ k) = ap (bitOr x) (j .is-column) in
-    omega arith
-
-pub joining-more : (n k end column x : ℕ) (before after : List ℕ) → x < end → Joining n k end column x before after
-    → Joining n k end column (x + 1) before (set after x (bitOr (word after x) (word after (bitOr x column))))
-joining-more n k end column x before after h j =
-    record {
-      up-to = omega arith;
-      is-end = j .is-end;
-      is-column = j .is-column;
-      column-below = j .column-below;
-      enough = j .enough;
-      words = join-more k x column before after (j .is-column) (omega (arith, j .is-end, j .enough)) (j .words);
-    }
-
-pub joining-done : (n k end column x : ℕ) (before after : List ℕ) → end ≤ x → Joining n k end column x before after
-    → Joined n k before after
-joining-done n k end column x before after h j =
-    let l = j .up-to in
-    let e = j .is-end in
-    record {
-      same-length = j .words .same-length;
-      joined = λ y b. j .words .joined y (omega arith);
-      past = λ y b. j .words .rest y (omega arith);
-    }
+use Rattle.table.proofs.Bits.{bit-or, bit-with-same, bit-with-other, with-below}
 
 -- s is x or larger, and the same from column k on
 pub record Reach (k x s : ℕ) : Type 0 where

@@ -1,5 +1,7 @@
 pub mod Bits
 pub mod Closing
+pub mod Joining
 pub mod Reading
+pub mod Replacing
 pub mod Scan
 pub mod Table

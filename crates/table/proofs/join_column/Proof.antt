@@ -1,17 +1,20 @@
--- `table::join_column` meets its contract. The loop's invariant: the words below `x` are joined, and from `x` on they
--- are as before. Each place that is read or written is at most that of `x` with the column, which is inside the words.
-use Prim.Native.Nat.{_-_}
+-- `table::join_column` meets its contract. The loop's invariant: the words below `start`, where a block begins, are
+-- joined, and from `start` on they are as before.
+use Prim.Native.Nat.{suc, _-_}
 use native.Mathlib.Omega.{arith}
 use borrow.Author.Needs.{needs}
-use Rattle.table.proofs.Closing.{Joining, joining-begun, joining-index, joining-more, joining-done}
+use Rattle.table.specs.Words.{word, withColumn}
+use Rattle.table.proofs.Joining.{column-pass, column-joined}
+use Rattle.table.proofs.Replacing.{Passing, passing-begun, passing-fits, passing-done}
 use Rattle.table.proofs.join_column.Statement.{statement}
 use Rattle.table.proofs.join_column.Tie as tie
 
 abbrev Inv-loop : tie.InvT-loop
-Inv-loop words₀ n k end column x₀ words x = Joining n k end column x words₀ words
+Inv-loop words₀ n k end column start₀ words start =
+    Passing n (suc k) end start (withColumn k (word words₀)) words₀ words
 
 abbrev μ-loop : tie.MeasureT-loop
-μ-loop words₀ n k end column x₀ words x = end - x
+μ-loop words₀ n k end column start₀ words start = end - start
 
 power-requires : tie.Need-power-requires Inv-loop μ-loop
 power-requires c κs = search needs
@@ -26,46 +29,38 @@ cast-column : tie.Need-cast-column Inv-loop μ-loop
 cast-column c = search needs
 
 loop-holds : tie.Need-loop-holds Inv-loop μ-loop
-loop-holds c = joining-begun _ _ _ _ _ (search needs) (search needs) (search needs) (search needs)
+loop-holds c = passing-begun _ _ _ _ _ (search needs) (search needs) (search needs)
 
-mul-words : tie.Need-mul-words Inv-loop μ-loop
-mul-words c = search needs
-
-slice-read-words : tie.Need-slice-read-words Inv-loop μ-loop
-slice-read-words c = search needs
-
-mul-words-2 : tie.Need-mul-words-2 Inv-loop μ-loop
-mul-words-2 c =
-    let h = joining-index _ _ _ _ _ _ _ (omega arith) (c .before .before .loop .inv) in
+join-block-requires : tie.Need-join-block-requires Inv-loop μ-loop
+join-block-requires c κs =
+    let h = passing-fits _ _ _ _ _ _ _ (omega arith) (c .before .before .loop .inv) in
     search needs
 
-slice-read-words-2 : tie.Need-slice-read-words-2 Inv-loop μ-loop
-slice-read-words-2 c = joining-index _ _ _ _ _ _ _ (omega arith) (c .before .before .before .loop .inv)
-
-mul-words-3 : tie.Need-mul-words-3 Inv-loop μ-loop
-mul-words-3 c =
-    let h = joining-index _ _ _ _ _ _ _ (omega arith) (c .before .before .before .loop .inv) in
+add-start : tie.Need-add-start Inv-loop μ-loop
+add-start c =
+    let h = passing-fits _ _ _ _ _ _ _ (omega arith) (c .before .before .before .before .before .loop .inv) in
     search needs
 
-slice-write-words : tie.Need-slice-write-words Inv-loop μ-loop
-slice-write-words c =
-    let h = joining-index _ _ _ _ _ _ _ (omega arith) (c .before .before .before .loop .inv) in
+add-start-2 : tie.Need-add-start-2 Inv-loop μ-loop
+add-start-2 c =
+    let h = passing-fits _ _ _ _ _ _ _ (omega arith) (c .before .before .before .before .before .loop .inv) in
     search needs
-
-add-x : tie.Need-add-x Inv-loop μ-loop
-add-x c = search needs
 
 loop-less : tie.Need-loop-less Inv-loop μ-loop
-loop-less c = search needs
+loop-less c =
+    let h = passing-fits _ _ _ _ _ _ _ (omega arith) (c .before .before .before .before .before .loop .inv) in
+    search needs
 
 loop-again : tie.Need-loop-again Inv-loop μ-loop
-loop-again c = joining-more _ _ _ _ _ _ _ (omega arith) (c .before .before .before .loop .inv)
+loop-again c =
+    column-pass _ _ _ _ _ _ _ _ (c .before .before .before .before .before .before .power2 .ensures) (omega arith)
+    (c .before .before .before .before .before .loop .inv) (c .before .before .join-block .ensures)
 
 same-length : tie.Need-same-length Inv-loop μ-loop
 same-length c = search needs
 
 returns : tie.Need-returns Inv-loop μ-loop
-returns c = joining-done _ _ _ _ _ _ _ (omega arith) (c .before .loop .inv)
+returns c = column-joined _ _ _ _ (passing-done _ _ _ _ _ _ _ (omega arith) (c .before .loop .inv))
 
 pub join-column-spec : {M : Type 1} → statement M
 join-column-spec =
@@ -78,13 +73,9 @@ join-column-spec =
     power-requires-2
     cast-column
     loop-holds
-    mul-words
-    slice-read-words
-    mul-words-2
-    slice-read-words-2
-    mul-words-3
-    slice-write-words
-    add-x
+    join-block-requires
+    add-start
+    add-start-2
     loop-less
     loop-again
     same-length
