@@ -1,115 +1,21 @@
--- Joining a column block by block, in place: words that are replaced part by part, where the left side with column k
--- stands in a block, and what the loops over a block and over the blocks know.
-use Prim.Native.Nat.{ℕ, suc, _+_, _-_, _*_, _/_, _%_, _^_, _≤_, _<_}
+-- Joining columns in place: where the left side with column k stands in a block, what a block of a column and columns
+-- one after the other leave, and that columns so joined are closed over.
+use Prim.Native.Nat.{ℕ, zero, suc, _+_, _-_, _*_, _%_, _^_, _≤_, _<_}
 use mathlib.Core.Path.{_≡_, refl, sym, ap, ap₂, _∙_, subst}
 use mathlib.Core.List.{List}
-use native.Mathlib.Decide.{ℕ-discrete, decLt}
-use native.Mathlib.Nat.{add-mod-right, two-pow-succ, zero-mod}
+use native.Mathlib.Decide.{decLt}
+use native.Mathlib.Nat.{two-pow-succ}
 use native.Mathlib.Omega.{arith}
-use lib.Bits.{bitOr, or-zero-l, or-zero-r, or-self, or-lt, or-block, or-shifted-r}
+use lib.Bits.{bitOr, or-zero-r, or-self, or-lt, or-block, or-shifted-r}
 use lib.ListN.{length, set, length-set}
-use lib.Pow.{pow-mono, pow-pos, split}
-use lib.Seq.{getD-set-same, getD-set-other}
-use Rattle.table.specs.Words.{word, Replaced, withFurther, withColumn, BlockJoined, Joined}
-use Rattle.table.proofs.Bits.{or-ge-left}
-
--- nothing replaced, one word more, and one part more
-pub replaced-none : (x : ℕ) (f : ℕ → ℕ) (ws : List ℕ) → Replaced x x f ws ws
-replaced-none x f ws =
-    record {
-      same-length = refl;
-      inside = λ y l m. absurd (omega arith);
-      below = λ y l. refl;
-      past = λ y l. refl;
-    }
-
-pub replaced-one : (s x v t u : ℕ) (f : ℕ → ℕ) (before after : List ℕ) → s ≤ x → x < length before → v ≡ f x → t ≡ x
-    → u ≡ x + 1 → Replaced s t f before after → Replaced s u f before (set after x v)
-replaced-one s x v t u f before after l h e i o r =
-    record {
-      same-length = length-set after x v ∙ r .same-length;
-      inside = λ y a b. at y a (omega arith) (ℕ-discrete y x);
-      below = λ y b. getD-set-other after x y v 0 (λ j. omega arith) ∙ r .below y b;
-      past = λ y b. getD-set-other after x y v 0 (λ j. omega arith) ∙ r .past y (omega arith);
-    }
-  where
-    at : (y : ℕ) → s ≤ y → y ≤ x → Dec (y ≡ x) → word (set after x v) y ≡ f y
-    at y a b (yes j) =
-        subst (λ (z : ℕ). word (set after x v) z ≡ f z) (sym j)
-        (getD-set-same after x v 0 (omega (arith, r .same-length)) ∙ e)
-    at y a b (no n) = getD-set-other after x y v 0 n ∙ r .inside y a (omega arith)
-
-pub replaced-more : (a b c : ℕ) (f g : ℕ → ℕ) (before mid after : List ℕ) → a ≤ b → b ≤ c → Replaced a b f before mid
-    → Replaced b c g mid after → ((y : ℕ) → b ≤ y → y < c → g y ≡ f y) → Replaced a c f before after
-replaced-more a b c f g before mid after l m r t same =
-    record {
-      same-length = t .same-length ∙ r .same-length;
-      inside = λ y i j. at y i j (decLt y b);
-      below = λ y i. t .below y (omega arith) ∙ r .below y i;
-      past = λ y i. t .past y i ∙ r .past y (omega arith);
-    }
-  where
-    at : (y : ℕ) → a ≤ y → y < c → Dec (y < b) → word after y ≡ f y
-    at y i j (yes k) = t .below y k ∙ r .inside y i k
-    at y i j (no k) = t .inside y (omega arith) j ∙ same y (omega arith) j
-
--- a place y in a block of 2 ^ m places from a on, with columns of s that are below m
-pub or-in-block : (m a s y : ℕ) → a % 2 ^ m ≡ 0 → s < 2 ^ m → a ≤ y → y < a + 2 ^ m → bitOr y s ≡ a + bitOr (y - a) s
-or-in-block m a s y e l g h =
-    let q = a / 2 ^ m in
-    let r = y - a in
-    let p : q * 2 ^ m ≡ a = omega (arith, split a m) in
-    let i : y ≡ q * 2 ^ m + r = omega arith in
-    let j : s ≡ 0 * 2 ^ m + s = omega arith in
-    ap₂ bitOr i j ∙ or-block m q 0 r s (omega arith) l
-    ∙ ap (λ (z : ℕ). z * 2 ^ m + bitOr r s) (or-zero-r q) ∙ ap (λ (z : ℕ). z + bitOr r s) p
-
--- column k is 2 ^ k further on in the first half, and is there in the second
-first-half : (k a y : ℕ) → a % 2 ^ suc k ≡ 0 → a ≤ y → y < a + 2 ^ k → bitOr y (2 ^ k) ≡ y + 2 ^ k
-first-half k a y e l h =
-    let p = two-pow-succ k in
-    let o = or-in-block (suc k) a (2 ^ k) y e (omega arith) l (omega arith) in
-    let s = or-shifted-r 1 k (y - a) (omega arith) in
-    let i : bitOr (y - a) (2 ^ k) ≡ bitOr (y - a) (1 * 2 ^ k) = ap (bitOr (y - a)) (omega arith) in
-    omega arith
-
-second-half : (k a y : ℕ) → a % 2 ^ suc k ≡ 0 → a + 2 ^ k ≤ y → y < a + 2 ^ k + 2 ^ k → bitOr y (2 ^ k) ≡ y
-second-half k a y e l h =
-    let p = two-pow-succ k in
-    let d = y - a - 2 ^ k in
-    let o = or-in-block (suc k) a (2 ^ k) y e (omega arith) (omega arith) (omega arith) in
-    let s : bitOr (1 * 2 ^ k + d) (1 * 2 ^ k + 0) ≡ 1 * 2 ^ k + bitOr d 0 = or-block k 1 1 d 0 (omega arith) (omega arith) in
-    let f : y - a ≡ 1 * 2 ^ k + d = omega arith in
-    let g : 2 ^ k ≡ 1 * 2 ^ k + 0 = omega arith in
-    let i : bitOr (y - a) (2 ^ k) ≡ bitOr (1 * 2 ^ k + d) (1 * 2 ^ k + 0) = ap₂ bitOr f g in
-    omega (arith, or-zero-r d)
-
--- a block of a column joined: its second half has what it had
-pub block-joined : (k a : ℕ) (before after : List ℕ) → a % 2 ^ suc k ≡ 0 → BlockJoined a (2 ^ k) before after
-    → Replaced a (a + 2 ^ k + 2 ^ k) (withColumn k (word before)) before after
-block-joined k a before after e r =
-    record {
-      same-length = r .same-length;
-      inside = λ y l h. at y l h (decLt y (a + 2 ^ k));
-      below = r .below;
-      past = λ y l. r .past y (omega arith);
-    }
-  where
-    at : (y : ℕ) → a ≤ y → y < a + 2 ^ k + 2 ^ k → Dec (y < a + 2 ^ k)
-        → word after y ≡ withColumn k (word before) y
-    at y l h (yes f) =
-        r .inside y l f ∙ ap (λ (z : ℕ). bitOr (word before y) (word before z)) (sym (first-half k a y e l f))
-    at y l h (no f) =
-        r .past y (omega arith) ∙ sym (or-self (word before y))
-        ∙ ap (λ (z : ℕ). bitOr (word before y) (word before z)) (sym (second-half k a y e (omega arith) h))
-
--- a column is joined in one part, and then in the next
-pub column-more : (k a b c : ℕ) (before mid after : List ℕ) → a ≤ b → b ≤ c
-    → Replaced a b (withColumn k (word before)) before mid → Replaced b c (withColumn k (word mid)) mid after
-    → Replaced a c (withColumn k (word before)) before after
-column-more k a b c before mid after l m r t =
-    replaced-more a b c (withColumn k (word before)) (withColumn k (word mid)) before mid after l m r t
-    (λ y i j. ap₂ bitOr (r .past y i) (r .past (bitOr y (2 ^ k)) (omega (arith, or-ge-left y (2 ^ k)))))
+use lib.Pow.{pow-lt}
+use lib.Seq.{ext-getD}
+use Rattle.table.specs.Words.{word, Replaced, withFurther, withColumn, withColumns, BlockJoined, Joined}
+use Rattle.table.specs.Words.{ColumnsJoined}
+use Rattle.table.proofs.Bits.{or-ge-left, with-below}
+use Rattle.table.proofs.Closing.{ClosedBelow, close-begun, close-more}
+use Rattle.table.proofs.Replacing.{replaced-none, replaced-one, replaced-more, replaced-some, or-in-block}
+use Rattle.table.proofs.Replacing.{Passing, passing-more}
 
 -- what the loop over a block knows: its first i words are joined
 pub record InBlock (start column i : ℕ) (before after : List ℕ) : Type 0 where
@@ -152,78 +58,162 @@ block-done start column i before after h b =
     let e : i ≡ column = omega arith in
     subst (λ (z : ℕ). Replaced start (start + z) (withFurther column (word before)) before after) e (b .words)
 
--- what the loop over the blocks knows: the column's power, the end, and the words below `start` joined
-pub record Joining (n k end column start : ℕ) (before after : List ℕ) : Type 0 where
-  pub up-to : start ≤ end
-  pub is-end : end ≡ 2 ^ n
-  pub is-column : column ≡ 2 ^ k
-  pub column-below : k < n
-  pub enough : 2 ^ n ≤ length before
-  pub aligned : start % 2 ^ suc k ≡ 0
-  pub words : Replaced 0 start (withColumn k (word before)) before after
-
-pub joining-begun : (n k end column : ℕ) (ws : List ℕ) → end ≡ 2 ^ n → column ≡ 2 ^ k → k < n → 2 ^ n ≤ length ws
-    → Joining n k end column 0 ws ws
-joining-begun n k end column ws e c h l =
-    record {
-      up-to = omega arith;
-      is-end = e;
-      is-column = c;
-      column-below = h;
-      enough = l;
-      aligned = zero-mod (2 ^ suc k);
-      words = replaced-none 0 (withColumn k (word ws)) ws;
-    }
-
--- a block that begins before the end, ends there or before
-block-fits : (n m a : ℕ) → a % 2 ^ m ≡ 0 → m ≤ n → a < 2 ^ n → a + 2 ^ m ≤ 2 ^ n
-block-fits n m a e l h =
-    let p = pow-pos m in
-    let o = or-in-block m a (2 ^ m - 1) a e (omega arith) (omega arith) (omega arith) in
-    let b = or-lt n a (2 ^ m - 1) h (omega (arith, pow-mono l)) in
-    let z : a - a ≡ 0 = omega arith in
-    let g = ap (λ (z : ℕ). bitOr z (2 ^ m - 1)) z ∙ or-zero-l (2 ^ m - 1) in
+-- column k is 2 ^ k further on in the first half, and is there in the second
+first-half : (k a y : ℕ) → a % 2 ^ suc k ≡ 0 → a ≤ y → y < a + 2 ^ k → bitOr y (2 ^ k) ≡ y + 2 ^ k
+first-half k a y e l h =
+    let p = two-pow-succ k in
+    let o = or-in-block (suc k) a (2 ^ k) y e (omega arith) l (omega arith) in
+    let s = or-shifted-r 1 k (y - a) (omega arith) in
+    let i : bitOr (y - a) (2 ^ k) ≡ bitOr (y - a) (1 * 2 ^ k) = ap (bitOr (y - a)) (omega arith) in
     omega arith
 
-pub joining-fits : (n k end column start : ℕ) (before after : List ℕ) → start < end
-    → Joining n k end column start before after
-    → (0 < column) × (start + column + column ≤ end) × (end ≤ length after)
-joining-fits n k end column start before after h j =
-    let e = j .is-end in
-    let c = j .is-column in
-    let l = j .enough in
-    let s = j .words .same-length in
+second-half : (k a y : ℕ) → a % 2 ^ suc k ≡ 0 → a + 2 ^ k ≤ y → y < a + 2 ^ k + 2 ^ k → bitOr y (2 ^ k) ≡ y
+second-half k a y e l h =
     let p = two-pow-succ k in
-    let f = block-fits n (suc k) start (j .aligned) (j .column-below) (omega arith) in
-    (omega (arith, pow-pos k), omega arith, omega arith)
+    let d = y - a - 2 ^ k in
+    let o = or-in-block (suc k) a (2 ^ k) y e (omega arith) (omega arith) (omega arith) in
+    let s : bitOr (1 * 2 ^ k + d) (1 * 2 ^ k + 0) ≡ 1 * 2 ^ k + bitOr d 0 =
+    or-block k 1 1 d 0 (omega arith) (omega arith) in
+    let f : y - a ≡ 1 * 2 ^ k + d = omega arith in
+    let g : 2 ^ k ≡ 1 * 2 ^ k + 0 = omega arith in
+    let i : bitOr (y - a) (2 ^ k) ≡ bitOr (1 * 2 ^ k + d) (1 * 2 ^ k + 0) = ap₂ bitOr f g in
+    omega (arith, or-zero-r d)
 
-pub joining-more : (n k end column start : ℕ) (before mid after : List ℕ) → start < end
-    → Joining n k end column start before mid → BlockJoined start column mid after
-    → Joining n k end column (start + column + column) before after
-joining-more n k end column start before mid after h j b =
-    let f = joining-fits n k end column start before mid h j in
-    let c = j .is-column in
-    let s : start + column + column ≡ start + 2 ^ suc k = omega (arith, two-pow-succ k) in
-    let w = block-joined k start mid after (j .aligned) (subst (λ (z : ℕ). BlockJoined start z mid after) c b) in
+-- a block of a column joined: its second half has what it had
+pub block-joined : (k a b column : ℕ) (before after : List ℕ) → column ≡ 2 ^ k → a % 2 ^ suc k ≡ 0
+    → b ≡ a + column + column → BlockJoined a column before after
+    → Replaced a b (withColumn k (word before)) before after
+block-joined k a b column before after c e i r =
     record {
-      up-to = f .1;
-      is-end = j .is-end;
-      is-column = c;
-      column-below = j .column-below;
-      enough = j .enough;
-      aligned = ap (λ (z : ℕ). z % 2 ^ suc k) s ∙ add-mod-right start (2 ^ suc k) ∙ j .aligned;
-      words =
-          column-more k 0 start (start + column + column) before mid after (omega arith) (omega arith) (j .words)
-          (subst (λ (z : ℕ). Replaced start (start + z + z) (withColumn k (word mid)) mid after) (sym c) w);
+      same-length = r .same-length;
+      inside = λ y l h. at y l h (decLt y (a + column));
+      below = r .below;
+      past = λ y l. r .past y (omega arith);
+    }
+  where
+    at : (y : ℕ) → a ≤ y → y < b → Dec (y < a + column) → word after y ≡ withColumn k (word before) y
+    at y l h (yes f) =
+        let j : y + column ≡ bitOr y (2 ^ k) = omega (arith, first-half k a y e l (omega arith)) in
+        r .inside y l f ∙ ap (λ (z : ℕ). bitOr (word before y) (word before z)) j
+    at y l h (no f) =
+        let j = second-half k a y e (omega arith) (omega arith) in
+        r .past y (omega arith) ∙ sym (or-self (word before y))
+        ∙ ap (λ (z : ℕ). bitOr (word before y) (word before z)) (sym j)
+
+-- from b on, the words with a column, or with columns, are told by the words from b on
+column-same : (k b : ℕ) (f g : ℕ → ℕ) → ((y : ℕ) → b ≤ y → f y ≡ g y)
+    → (y : ℕ) → b ≤ y → withColumn k f y ≡ withColumn k g y
+column-same k b f g same y l = ap₂ bitOr (same y l) (same (bitOr y (2 ^ k)) (omega (arith, or-ge-left y (2 ^ k))))
+
+columns-same : (k b : ℕ) (f g : ℕ → ℕ) → ((y : ℕ) → b ≤ y → f y ≡ g y)
+    → (y : ℕ) → b ≤ y → withColumns k f y ≡ withColumns k g y
+unfolding withColumns
+columns-same zero b f g same = same
+columns-same (suc k) b f g same = column-same k b (withColumns k f) (withColumns k g) (columns-same k b f g same)
+
+-- a column is joined in one part, and then in the next
+pub parts-joined : (k a b c : ℕ) (before mid after : List ℕ) → a ≤ b → b ≤ c
+    → Replaced a b (withColumn k (word before)) before mid → Replaced b c (withColumn k (word mid)) mid after
+    → Replaced a c (withColumn k (word before)) before after
+parts-joined k a b c before mid after l m r t =
+    replaced-more a b c (withColumn k (word before)) (withColumn k (word mid)) before mid after l m r t
+    (λ y i j. column-same k b (word mid) (word before) (r .past) y i)
+
+-- one column more is joined, in a part that has its left sides with this column
+pub columns-more : (k a b : ℕ) (before mid after : List ℕ) → ((y : ℕ) → a ≤ y → y < b → bitOr y (2 ^ k) < b)
+    → ColumnsJoined a b k before mid → Replaced a b (withColumn k (word mid)) mid after
+    → ColumnsJoined a b (suc k) before after
+unfolding withColumns
+columns-more k a b before mid after within r t =
+    record {
+      same-length = t .same-length ∙ r .same-length;
+      inside = λ y l h.
+          t .inside y l h ∙ ap₂ bitOr (r .inside y l h)
+          (r .inside (bitOr y (2 ^ k)) (omega (arith, or-ge-left y (2 ^ k))) (within y l h));
+      below = λ y l. t .below y l ∙ r .below y l;
+      past = λ y l. t .past y l ∙ r .past y l;
     }
 
-pub joining-done : (n k end column start : ℕ) (before after : List ℕ) → end ≤ start
-    → Joining n k end column start before after → Joined n k before after
-joining-done n k end column start before after h j =
-    let l = j .up-to in
-    let e = j .is-end in
+-- the pass of a column, and that of the three lowest columns
+pub column-pass : (n k end column start : ℕ) (before mid after : List ℕ) → column ≡ 2 ^ k → start < end
+    → Passing n (suc k) end start (withColumn k (word before)) before mid → BlockJoined start column mid after
+    → Passing n (suc k) end (start + column + column) (withColumn k (word before)) before after
+column-pass n k end column start before mid after c h p b =
+    passing-more n (suc k) end start (start + column + column) (withColumn k (word before)) (withColumn k (word mid))
+    before mid after h (omega (arith, two-pow-succ k)) p
+    (block-joined k start (start + column + column) column mid after c (p .aligned) refl b)
+    (column-same k start (word mid) (word before) (p .words .past))
+
+pub columns-pass : (n m end start : ℕ) (before mid after : List ℕ) → start < end
+    → Passing n m end start (withColumns m (word before)) before mid
+    → ColumnsJoined start (start + 2 ^ m) m mid after
+    → Passing n m end (start + 2 ^ m) (withColumns m (word before)) before after
+columns-pass n m end start before mid after h p r =
+    passing-more n m end start (start + 2 ^ m) (withColumns m (word before)) (withColumns m (word mid))
+    before mid after h refl p r (columns-same m start (word mid) (word before) (p .words .past))
+
+pub column-joined : (n k : ℕ) (before after : List ℕ) → Replaced 0 (2 ^ n) (withColumn k (word before)) before after
+    → Joined n k before after
+column-joined n k before after r =
     record {
-      same-length = j .words .same-length;
-      joined = λ y b. j .words .inside y (omega arith) (omega arith);
-      past = λ y b. j .words .past y (omega arith);
+      same-length = r .same-length;
+      joined = λ y b. r .inside y (omega arith) b;
+      past = r .past;
     }
+
+-- no column joined
+pub columns-none : (a b : ℕ) (ws : List ℕ) → ColumnsJoined a b 0 ws ws
+unfolding withColumns
+columns-none a b ws =
+    record { same-length = refl; inside = λ y l h. refl; below = λ y l. refl; past = λ y l. refl }
+
+-- eight words joined by blocks: four of column 0, two of column 1 and one of column 2
+pub eight-joined : (a : ℕ) (w0 w1 w2 w3 w4 w5 w6 w7 : List ℕ) → a % 8 ≡ 0
+    → BlockJoined a 1 w0 w1 → BlockJoined (a + 2) 1 w1 w2 → BlockJoined (a + 4) 1 w2 w3 → BlockJoined (a + 6) 1 w3 w4
+    → BlockJoined a 2 w4 w5 → BlockJoined (a + 4) 2 w5 w6 → BlockJoined a 4 w6 w7
+    → ColumnsJoined a (a + 8) 3 w0 w7
+eight-joined a w0 w1 w2 w3 w4 w5 w6 w7 e b0 b1 b2 b3 b4 b5 b6 =
+    let c0 = block-joined 0 a (a + 2) 1 w0 w1 refl (omega arith) (omega arith) b0 in
+    let c1 = block-joined 0 (a + 2) (a + 4) 1 w1 w2 refl (omega arith) (omega arith) b1 in
+    let c2 = block-joined 0 (a + 4) (a + 6) 1 w2 w3 refl (omega arith) (omega arith) b2 in
+    let c3 = block-joined 0 (a + 6) (a + 8) 1 w3 w4 refl (omega arith) (omega arith) b3 in
+    let c4 = block-joined 1 a (a + 4) 2 w4 w5 refl (omega arith) (omega arith) b4 in
+    let c5 = block-joined 1 (a + 4) (a + 8) 2 w5 w6 refl (omega arith) (omega arith) b5 in
+    let c6 = block-joined 2 a (a + 8) 4 w6 w7 refl (omega arith) (omega arith) b6 in
+    let low = parts-joined 0 a (a + 4) (a + 6) w0 w2 w3 (omega arith) (omega arith)
+    (parts-joined 0 a (a + 2) (a + 4) w0 w1 w2 (omega arith) (omega arith) c0 c1) c2 in
+    let one = columns-more 0 a (a + 8) w0 w0 w4 (within 0 (omega arith)) (columns-none a (a + 8) w0)
+    (parts-joined 0 a (a + 6) (a + 8) w0 w3 w4 (omega arith) (omega arith) low c3) in
+    let two = columns-more 1 a (a + 8) w0 w4 w6 (within 1 (omega arith)) one
+    (parts-joined 1 a (a + 4) (a + 8) w4 w5 w6 (omega arith) (omega arith) c4 c5) in
+    columns-more 2 a (a + 8) w0 w6 w7 (within 2 (omega arith)) two c6
+  where
+    within : (k : ℕ) → k < 3 → (y : ℕ) → a ≤ y → y < a + 8 → bitOr y (2 ^ k) < a + 8
+    within k l y g h =
+        omega (arith, or-in-block 3 a (2 ^ k) y e (pow-lt l) g h, or-lt 3 (y - a) (2 ^ k) (omega arith) (pow-lt l))
+
+-- the first k columns joined one after the other are closed over
+pub columns-closed : (n k : ℕ) (before after : List ℕ) → k ≤ n → 2 ^ n ≤ length before
+    → ColumnsJoined 0 (2 ^ n) k before after → ClosedBelow n k before after
+unfolding withColumns
+columns-closed n zero before after h l r =
+    subst (λ (ws : List ℕ). ClosedBelow n 0 before ws)
+    (ext-getD 0 before after (sym (r .same-length)) (λ y b. sym (at y (decLt y (2 ^ n)))))
+    (close-begun n before)
+  where
+    at : (y : ℕ) → Dec (y < 2 ^ n) → word after y ≡ word before y
+    at y (yes b) = r .inside y (omega arith) b
+    at y (no b) = r .past y (omega arith)
+columns-closed n (suc k) before after h l r =
+    let some = replaced-some (2 ^ n) (withColumns k (word before)) before l in
+    let mid = some .0 in
+    let m = some .1 in
+    close-more n k before mid after (omega arith) (columns-closed n k before mid (omega arith) l m)
+    (record {
+      same-length = r .same-length ∙ sym (m .same-length);
+      joined = λ y b.
+          r .inside y (omega arith) b
+          ∙ sym (ap₂ bitOr (m .inside y (omega arith) b)
+          (m .inside (bitOr y (2 ^ k)) (omega arith) (with-below n y k b (omega arith))));
+      past = λ y b. r .past y b ∙ sym (m .past y b);
+    })

@@ -1,6 +1,6 @@
 -- Words, one for each left side: numbers by their bits, what closing the words over larger left sides means, and the
 -- rights that are read off them. Nothing here knows of a catalogue.
-use Prim.Native.Nat.{ℕ, _+_, _^_, _≤_, _<_}
+use Prim.Native.Nat.{ℕ, zero, suc, _+_, _^_, _≤_, _<_}
 use mathlib.Core.Path.{_≡_}
 use mathlib.Core.List.{List}
 use lib.ListN.{length, getD}
@@ -33,10 +33,19 @@ withFurther column f y = bitOr (f y) (f (y + column))
 abbrev pub withColumn : ℕ → (ℕ → ℕ) → ℕ → ℕ
 withColumn k f y = bitOr (f y) (f (bitOr y (2 ^ k)))
 
+-- the word at y with the first k columns joined, one after the other
+unfoldable pub withColumns : ℕ → (ℕ → ℕ) → ℕ → ℕ
+withColumns zero f = f
+withColumns (suc k) f = withColumn k (withColumns k f)
+
 -- one block joined: each of the `column` words from `start` on has got the bits of the word that is `column` further on
 abbrev pub BlockJoined : ℕ → ℕ → List ℕ → List ℕ → Type 0
 BlockJoined start column before after =
     Replaced start (start + column) (withFurther column (word before)) before after
+
+-- the first k columns joined from `start` to `end`
+abbrev pub ColumnsJoined : ℕ → ℕ → ℕ → List ℕ → List ℕ → Type 0
+ColumnsJoined start end k before after = Replaced start end (withColumns k (word before)) before after
 
 -- one column joined: each of the first 2 ^ n words has got the bits of the word at its left side with column k
 pub record Joined (n k : ℕ) (before after : List ℕ) : Type 0 where

@@ -2,12 +2,12 @@
 // set breaks, `close` carries it to every smaller left side, and `minimal_rights` reads a left side's rights off the closed
 // words.
 // Relies on the definitions of `model` and `columns`. Called by `planes`, `scan` and `rights`.
-ghost use Prim.Native.Nat.{ℕ, _+_, _^_, _≤_, _<_};
+ghost use Prim.Native.Nat.{ℕ, _+_, _%_, _^_, _≤_, _<_};
 ghost use mathlib.Core.Path.{_≡_};
 ghost use mathlib.Core.Logic.{_↔_};
 ghost use lib.ListN.{length};
 ghost use Rattle.columns.specs.Set.{bit};
-ghost use Rattle.table.specs.Words.{lackingOf, BlockJoined, Joined, Closed, Read};
+ghost use Rattle.table.specs.Words.{lackingOf, BlockJoined, ColumnsJoined, Joined, Closed, Read};
 use bits::power;
 
 // Joins one block: each of the `column` words from `start` on gets the bits of the word that is `column` further on.
@@ -18,7 +18,8 @@ fn join_block(words: &mut [u32], start: usize, column: usize)
     let mut i = 0;
     while i < column {
         let x = start + i;
-        words[x] = words[x] | words[x + column];
+        let further = x + column;
+        words[x] = words[x] | words[further];
         i += 1;
     }
 }
@@ -38,12 +39,43 @@ fn join_column(words: &mut [u32], n: u32, k: u32)
     }
 }
 
+// Joins the three lowest columns in eight words: those of left sides that differ in these columns only.
+fn join_eight(words: &mut [u32], start: usize)
+    requires { ⌜ (start % 8 ≡ 0) × (start + 8 ≤ length (now words)) ⌝ }
+    ensures { λ r. ⌜ ColumnsJoined start (start + 8) 3 (now (words .entry)) (now (words .exit)) ⌝ }
+{
+    join_block(words, start, 1);
+    join_block(words, start + 2, 1);
+    join_block(words, start + 4, 1);
+    join_block(words, start + 6, 1);
+    join_block(words, start, 2);
+    join_block(words, start + 4, 2);
+    join_block(words, start, 4);
+}
+
+// Joins the three lowest columns, eight words at a time, or none where there are fewer, and says how many.
+fn join_lowest(words: &mut [u32], n: u32) -> u32
+    requires { ⌜ (n < 32) × (2 ^ n ≤ length (now words)) ⌝ }
+    ensures { λ r. ⌜ (r ≤ n) × ColumnsJoined 0 (2 ^ n) r (now (words .entry)) (now (words .exit)) ⌝ }
+{
+    if n < 3 {
+        return 0;
+    }
+    let end = power(n) as usize;
+    let mut start = 0;
+    while start < end {
+        join_eight(words, start);
+        start += 8;
+    }
+    3
+}
+
 // Closes the words over larger left sides, column by column: what a left side does not give, no smaller one gives.
 pub fn close(words: &mut [u32], n: u32)
     requires { ⌜ (n < 32) × (2 ^ n ≤ length (now words)) ⌝ }
     ensures { λ r. ⌜ Closed n (now (words .entry)) (now (words .exit)) ⌝ }
 {
-    let mut k = 0;
+    let mut k = join_lowest(words, n);
     while k < n {
         join_column(words, n, k);
         k += 1;

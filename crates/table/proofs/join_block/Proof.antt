@@ -20,14 +20,14 @@ loop-holds c = block-begun _ _ _ (search needs)
 add-x : tie.Need-add-x Inv-loop μ-loop
 add-x c = search needs
 
+add-further : tie.Need-add-further Inv-loop μ-loop
+add-further c = search needs
+
 mul-words : tie.Need-mul-words Inv-loop μ-loop
 mul-words c = search needs
 
 slice-read-words : tie.Need-slice-read-words Inv-loop μ-loop
 slice-read-words c = search needs
-
-add-words : tie.Need-add-words Inv-loop μ-loop
-add-words c = search needs
 
 mul-words-2 : tie.Need-mul-words-2 Inv-loop μ-loop
 mul-words-2 c = search needs
@@ -64,9 +64,9 @@ join-block-spec =
     μ-loop
     loop-holds
     add-x
+    add-further
     mul-words
     slice-read-words
-    add-words
     mul-words-2
     slice-read-words-2
     mul-words-3
