@@ -1,13 +1,13 @@
 -- Numbers of rows, row by row and member by member.
 use Prim.Native.Nat.{ℕ, _+_, _*_, _^_, _≤_, _<_}
 use mathlib.Core.Path.{_≡_, refl, sym, ap, subst, _∙_}
-use mathlib.Core.Logic.{_⊎_, inl, inr, _↔_}
+use mathlib.Core.Logic.{inl, inr, _↔_}
 use mathlib.Core.List.{List}
-use native.Mathlib.Decide.{ℕ-discrete, decLt}
+use native.Mathlib.Decide.{ℕ-discrete}
 use native.Mathlib.Omega.{arith}
 use lib.Bits.{bitOr, or-zero-r}
 use lib.Dec.{eqb}
-use lib.ListN.{length, getD, set, length-set}
+use lib.ListN.{length, set, length-set}
 use lib.Pow.{pow-mono}
 use lib.Seq.{getD-set-same, getD-set-other}
 use Rattle.columns.specs.Bound.{columnBound}
@@ -15,7 +15,8 @@ use Rattle.columns.specs.Set.{bit}
 use Rattle.columns.proofs.Bits.{bit-past}
 use Rattle.model.specs.Bounds.{rowBound}
 use Rattle.model.proofs.Truth.{eqb-is}
-use Rattle.table.proofs.Bits.{bit-none, bit-with-same, bit-with-other, with-below}
+use Rattle.table.proofs.Bits.{bit-none, bit-with-other, with-below}
+use Rattle.filled.proofs.Below.{below-more}
 use Rattle.leaders.specs.Keys.{keyAt, keysSize}
 use Rattle.leaders.proofs.Keys.{same-test}
 use Rattle.classes.specs.Classes.{byteBound, Numbering, OnlyMember, SameClasses, MemberNumbered, Numbered}
@@ -41,8 +42,8 @@ pub numbering-more : {keys : List ℕ} {k q count : ℕ} {bytes : List ℕ} (x r
 numbering-more {keys} {k} {q} {count} {bytes} x r hk hq back fits grows few right h = record {
   long = simp length-set (h .long);
   few = few;
-  back = λ i l. at-back i l (ℕ-discrete i q);
-  small = λ i l. at-small i l (ℕ-discrete i q);
+  back = below-more (h .back) back;
+  small = below-more (λ i l. omega (arith, there i (λ u. omega arith), h .small i l)) (omega (arith, here));
   same = λ i j l m. at-same i j l m (ℕ-discrete i q) (ℕ-discrete j q);
 }
   where
@@ -51,14 +52,6 @@ numbering-more {keys} {k} {q} {count} {bytes} x r hk hq back fits grows few righ
 
     there : (i : ℕ) → (i ≡ q → ⊥) → keyAt (set bytes (k * rowBound + q) x) k i ≡ keyAt bytes k i
     there i d = getD-set-other bytes (k * rowBound + q) (k * rowBound + i) x 0 (λ e. d (omega arith))
-
-    at-back : (i : ℕ) → i < q + 1 → Dec (i ≡ q) → keyAt keys k i ≤ i
-    at-back i l (yes e) = subst (λ (j : ℕ). keyAt keys k j ≤ j) (sym e) back
-    at-back i l (no d) = h .back i (omega arith)
-
-    at-small : (i : ℕ) → i < q + 1 → Dec (i ≡ q) → keyAt (set bytes (k * rowBound + q) x) k i < r
-    at-small i l (yes e) = subst (λ (j : ℕ). keyAt (set bytes (k * rowBound + q) x) k j < r) (sym e) (omega (arith, here))
-    at-small i l (no d) = omega (arith, there i d, h .small i (omega arith))
 
     at-same : (i j : ℕ) → i < q + 1 → j < q + 1 → Dec (i ≡ q) → Dec (j ≡ q)
         → (keyAt (set bytes (k * rowBound + q) x) k i ≡ keyAt (set bytes (k * rowBound + q) x) k j) ↔ (keyAt keys k i ≡ keyAt keys k j)

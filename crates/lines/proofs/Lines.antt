@@ -4,8 +4,7 @@ use mathlib.Core.Path.{_≡_, refl, sym, ap, ap₂, subst, _∙_}
 use mathlib.Core.Bool.{Bool, true, false, _&&_}
 use mathlib.Core.List.{List}
 use native.Mathlib.Decide.{ℕ-discrete, decLt}
-use native.Mathlib.Nat.{add-zero, zero-add, one-mul, zero-mul, add-comm, mod-lt, lt-of-lt-of-le}
-use native.Mathlib.Numerals.{add-one}
+use native.Mathlib.Nat.{add-zero, zero-add, one-mul, zero-mul, add-comm, mod-lt}
 use native.Mathlib.Omega.{arith}
 use borrow.Author.Tests.{lt-ltb, le-ltb, eq-eqb, ne-eqb}
 use lib.Bits.{bitOr, or-zero-r, or-shifted-r}
@@ -22,11 +21,12 @@ use Rattle.model.specs.Bounds.{rowBound}
 use Rattle.table.specs.Words.{word}
 use Rattle.table.specs.Broken.{agreeSetOf}
 use Rattle.table.proofs.Bits.{bit-with-same, bit-with-other, with-below}
-use Rattle.leaders.specs.Keys.{keysSize, keyAt, keyView}
+use Rattle.filled.proofs.Below.{below-more}
+use Rattle.leaders.specs.Keys.{keyAt, keyView}
 use Rattle.classes.specs.Classes.{Numbered}
 use Rattle.lines.specs.declared.part.Comparand.{Comparand}
 use Rattle.lines.specs.declared.part.Eight.{Eight}
-use Rattle.lines.specs.Lines.{lineMembers, partMembers, Over, sameNumber, partAt, numberedAt, joinedAt, withMember, met, metAt}
+use Rattle.lines.specs.Lines.{lineMembers, Over, sameNumber, partAt, numberedAt, joinedAt, withMember, met, metAt}
 use Rattle.lines.specs.Compares.{Compares, ComparesEight, InsideEight, added, eightOf}
 
 -- a line is written row by row
@@ -34,11 +34,12 @@ pub over-begun : (f : ℕ → ℕ) (x : ℕ) (line : List ℕ) → length line �
 over-begun f x line l = record { long = l; at = λ q h m. absurd (omega arith) }
 
 pub over-more : {f : ℕ → ℕ} {x q : ℕ} {line : List ℕ} (s : ℕ) → q < rowBound → s ≡ f q → Over f x q line → Over f x (q + 1) (set line q s)
-over-more {f} {x} {q} {line} s l e h = record { long = simp length-set (h .long); at = λ j k m. now j k m (ℕ-discrete j q) }
-  where
-    now : (j : ℕ) → x < j → j < q + 1 → Dec (j ≡ q) → word (set line q s) j ≡ f j
-    now j k m (yes u) = subst (λ (i : ℕ). word (set line q s) i ≡ f i) (sym u) (getD-set-same line q s 0 (omega (arith, h .long)) ∙ e)
-    now j k m (no d) = getD-set-other line q j s 0 d ∙ h .at j k (omega arith)
+over-more {f} {x} {q} {line} s l e h = record {
+  long = simp length-set (h .long);
+  at = λ j k m.
+      below-more {P = λ j. x < j → word (set line q s) j ≡ f j} (λ j m k. getD-set-other line q j s 0 (λ u. omega arith) ∙ h .at j k m)
+      (λ k. getD-set-same line q s 0 (omega (arith, h .long)) ∙ e) j m k;
+}
 
 pub over-done : {f : ℕ → ℕ} {x q end : ℕ} {line : List ℕ} → end ≤ q → Over f x q line → Over f x end line
 over-done l h = record { long = h .long; at = λ j k m. h .at j k (omega arith) }

@@ -1,5 +1,5 @@
 -- `lines::part::compare_eight` meets its contract. The invariant: the rows below q are compared.
-use Prim.Native.Nat.{_-_, _<_}
+use Prim.Native.Nat.{_-_}
 use native.Mathlib.Omega.{arith}
 use mathlib.Core.Path.{_∙_}
 use Rattle.lines.specs.Lines.{Over, partAt}

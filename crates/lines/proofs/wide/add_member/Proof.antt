@@ -1,5 +1,5 @@
 -- `lines::wide::add_member` meets its contract. The invariant: the rows below q have the member, and those ahead are as they were.
-use Prim.Native.Nat.{ℕ, _-_, _^_, _≤_}
+use Prim.Native.Nat.{ℕ, _-_}
 use mathlib.Core.Path.{ap, ap₂, _∙_}
 use native.Mathlib.Nat.{le-refl}
 use native.Mathlib.Omega.{arith}
