@@ -35,7 +35,7 @@ module _ (b : List ℕ) (o c low : ℕ) (reached : List ℕ) (end set : ℕ) (be
   -- the keys of another are the leaders by its words
   pub table-more : (j : ℕ) (words leaders keys after : List ℕ) (r : ℕ) → 0 < j → j ≤ c → end ≤ rowBound
       → Words b (o + 8 + 4 * (j - 1)) (2 + 4 * c) reached end words → Grouped words end leaders r
-      → Filled ((low + (j - 1)) * rowBound) end (λ q. getD leaders q 0) keys after
+      → Filled ((low + (j - 1)) * rowBound) ((low + (j - 1)) * rowBound + end) (λ i. getD leaders (i - (low + (j - 1)) * rowBound) 0) keys after
       → LaidTable b o c low reached end set j before keys → LaidTable b o c low reached end set (j - 1) before after
   table-more j words leaders keys after r p l short w g put h = record {
     same-length = put .same-length ∙ h .same-length;
@@ -43,11 +43,14 @@ module _ (b : List ℕ) (o c low : ℕ) (reached : List ℕ) (end set : ℕ) (be
     kept = λ k q lk. put .past (k * rowBound + q) (omega arith) ∙ h .kept k q lk;
   }
     where
+      place : (q : ℕ) → (low + (j - 1)) * rowBound + q - (low + (j - 1)) * rowBound ≡ q
+      place q = omega arith
+
       at : (i q : ℕ) → j - 1 ≤ i → i < c → In (low + i) set → q < end → Dec (j - 1 ≡ i)
           → keyAt after (low + i) q ≡ leaderBy b (o + 8 + 4 * i) (2 + 4 * c) reached q
       at i q li hi n lq (yes e) =
           subst (λ (i : ℕ). keyAt after (low + i) q ≡ leaderBy b (o + 8 + 4 * i) (2 + 4 * c) reached q) e
-          (put .inside q lq ∙ g .leaders q lq ∙ leader-by-words b (o + 8 + 4 * (j - 1)) (2 + 4 * c) reached end words w q lq)
+          (put .inside ((low + (j - 1)) * rowBound + q) (omega arith) (omega arith) ∙ ap (λ (i : ℕ). getD leaders i 0) (place q) ∙ g .leaders q lq ∙ leader-by-words b (o + 8 + 4 * (j - 1)) (2 + 4 * c) reached end words w q lq)
       at i q li hi n lq (no d) = put .past ((low + i) * rowBound + q) (omega arith) ∙ h .laid i q (omega arith) hi n lq
 
   -- as far

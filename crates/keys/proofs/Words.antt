@@ -78,7 +78,7 @@ pub filling-more : (b : List ℕ) (from width : ℕ) (reached : List ℕ) (q : �
     → Filling b from width reached q before words → Filling b from width reached (q + 1) before (set words q x)
 filling-more b from width reached q before words code x l e s f h =
     record {
-      put = filled-more (h .put) (omega arith) l (f ∙ ap (λ (z : ℕ). wordOf z (getD reached q 0)) e);
+      put = filled-more (h .put) (omega arith) (omega arith) l (f ∙ ap (λ (z : ℕ). wordOf z (getD reached q 0)) e);
       small = below-more (h .small) (omega arith);
     }
 

@@ -10,11 +10,13 @@ use lib.Bits.{bitOr, or-zero-r, or-self, or-lt, or-block, or-shifted-r}
 use lib.ListN.{length, set, length-set}
 use lib.Pow.{pow-lt}
 use lib.Seq.{ext-getD}
-use Rattle.table.specs.Words.{word, Replaced, withFurther, withColumn, withColumns, BlockJoined, Joined}
+use Rattle.table.specs.Words.{word, withFurther, withColumn, withColumns, BlockJoined, Joined}
 use Rattle.table.specs.Words.{ColumnsJoined}
 use Rattle.table.proofs.Bits.{or-ge-left, with-below}
 use Rattle.table.proofs.Closing.{ClosedBelow, close-begun, close-more}
-use Rattle.table.proofs.Replacing.{replaced-none, replaced-one, replaced-more, replaced-some, or-in-block}
+use Rattle.filled.specs.Filled.{Filled}
+use Rattle.filled.proofs.Filled.{filled-none, filled-more, filled-moved, filled-then}
+use Rattle.table.proofs.Replacing.{filled-some, or-in-block}
 use Rattle.table.proofs.Replacing.{Passing, passing-more}
 
 -- what the loop over a block knows: its first i words are joined
@@ -22,7 +24,7 @@ pub record InBlock (start column i : ℕ) (before after : List ℕ) : Type 0 whe
   pub up-to : i ≤ column
   pub enough : start + column + column ≤ length before
   pub same-length : length after ≡ length before
-  pub words : Replaced start (start + i) (withFurther column (word before)) before after
+  pub words : Filled start (start + i) (withFurther column (word before)) before after
 
 pub block-begun : (start column : ℕ) (ws : List ℕ) → start + column + column ≤ length ws → InBlock start column 0 ws ws
 block-begun start column ws l =
@@ -32,7 +34,7 @@ block-begun start column ws l =
       up-to = omega arith;
       enough = l;
       same-length = refl;
-      words = subst (λ (z : ℕ). Replaced start z f ws ws) e (replaced-none start f ws);
+      words = filled-moved e filled-none;
     }
 
 pub block-more : (start column i x : ℕ) (before after : List ℕ) → x ≡ start + i → i < column
@@ -46,9 +48,9 @@ block-more start column i x before after e h b =
       enough = l;
       same-length = length-set after x (withFurther column (word after) x) ∙ b .same-length;
       words =
-          replaced-one start x (withFurther column (word after) x) (start + i) (start + (i + 1))
-          (withFurther column (word before)) before after (omega arith) (omega arith)
-          (ap₂ bitOr (r .past x (omega arith)) (r .past (x + column) (omega arith))) (sym e) (omega arith) r;
+          filled-moved (omega arith)
+          (filled-more r e (omega arith) (omega arith)
+          (ap₂ bitOr (r .past x (omega arith)) (r .past (x + column) (omega arith)) ∙ ap (withFurther column (word before)) e));
     }
 
 pub block-done : (start column i : ℕ) (before after : List ℕ) → column ≤ i → InBlock start column i before after
@@ -56,7 +58,7 @@ pub block-done : (start column i : ℕ) (before after : List ℕ) → column ≤
 block-done start column i before after h b =
     let l = b .up-to in
     let e : i ≡ column = omega arith in
-    subst (λ (z : ℕ). Replaced start (start + z) (withFurther column (word before)) before after) e (b .words)
+    filled-moved (ap (λ (z : ℕ). start + z) e) (b .words)
 
 -- column k is 2 ^ k further on in the first half, and is there in the second
 first-half : (k a y : ℕ) → a % 2 ^ suc k ≡ 0 → a ≤ y → y < a + 2 ^ k → bitOr y (2 ^ k) ≡ y + 2 ^ k
@@ -82,7 +84,7 @@ second-half k a y e l h =
 -- a block of a column joined: its second half has what it had
 pub block-joined : (k a b column : ℕ) (before after : List ℕ) → column ≡ 2 ^ k → a % 2 ^ suc k ≡ 0
     → b ≡ a + column + column → BlockJoined a column before after
-    → Replaced a b (withColumn k (word before)) before after
+    → Filled a b (withColumn k (word before)) before after
 block-joined k a b column before after c e i r =
     record {
       same-length = r .same-length;
@@ -113,15 +115,15 @@ columns-same (suc k) b f g same = column-same k b (withColumns k f) (withColumns
 
 -- a column is joined in one part, and then in the next
 pub parts-joined : (k a b c : ℕ) (before mid after : List ℕ) → a ≤ b → b ≤ c
-    → Replaced a b (withColumn k (word before)) before mid → Replaced b c (withColumn k (word mid)) mid after
-    → Replaced a c (withColumn k (word before)) before after
+    → Filled a b (withColumn k (word before)) before mid → Filled b c (withColumn k (word mid)) mid after
+    → Filled a c (withColumn k (word before)) before after
 parts-joined k a b c before mid after l m r t =
-    replaced-more a b c (withColumn k (word before)) (withColumn k (word mid)) before mid after l m r t
+    filled-then a b c (withColumn k (word before)) (withColumn k (word mid)) before mid after l m r t
     (λ y i j. column-same k b (word mid) (word before) (r .past) y i)
 
 -- one column more is joined, in a part that has its left sides with this column
 pub columns-more : (k a b : ℕ) (before mid after : List ℕ) → ((y : ℕ) → a ≤ y → y < b → bitOr y (2 ^ k) < b)
-    → ColumnsJoined a b k before mid → Replaced a b (withColumn k (word mid)) mid after
+    → ColumnsJoined a b k before mid → Filled a b (withColumn k (word mid)) mid after
     → ColumnsJoined a b (suc k) before after
 unfolding withColumns
 columns-more k a b before mid after within r t =
@@ -152,7 +154,7 @@ columns-pass n m end start before mid after h p r =
     passing-more n m end start (start + 2 ^ m) (withColumns m (word before)) (withColumns m (word mid))
     before mid after h refl p r (columns-same m start (word mid) (word before) (p .words .past))
 
-pub column-joined : (n k : ℕ) (before after : List ℕ) → Replaced 0 (2 ^ n) (withColumn k (word before)) before after
+pub column-joined : (n k : ℕ) (before after : List ℕ) → Filled 0 (2 ^ n) (withColumn k (word before)) before after
     → Joined n k before after
 column-joined n k before after r =
     record {
@@ -205,7 +207,7 @@ columns-closed n zero before after h l r =
     at y (yes b) = r .inside y (omega arith) b
     at y (no b) = r .past y (omega arith)
 columns-closed n (suc k) before after h l r =
-    let some = replaced-some (2 ^ n) (withColumns k (word before)) before l in
+    let some = filled-some (2 ^ n) (withColumns k (word before)) before l in
     let mid = some .0 in
     let m = some .1 in
     close-more n k before mid after (omega arith) (columns-closed n k before mid (omega arith) l m)

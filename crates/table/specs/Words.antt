@@ -6,6 +6,7 @@ use mathlib.Core.List.{List}
 use lib.ListN.{length, getD}
 use lib.Bits.{bitOr, bitAnd, bitXor}
 use Rattle.columns.specs.Set.{bit, withoutOf}
+use Rattle.filled.specs.Filled.{Filled}
 
 -- the word at x; past the end it is 0
 abbrev pub word : List ℕ → ℕ → ℕ
@@ -18,13 +19,6 @@ Above x s = (k : ℕ) → bit x k ≡ 1 → bit s k ≡ 1
 -- the bits of x that are not bits of y
 abbrev pub lackingOf : ℕ → ℕ → ℕ
 lackingOf x y = bitXor x (bitAnd x y)
-
--- the words from `start` to `end` have become those of f, and the others are as before
-pub record Replaced (start end : ℕ) (f : ℕ → ℕ) (before after : List ℕ) : Type 0 where
-  pub same-length : length after ≡ length before
-  pub inside : (y : ℕ) → start ≤ y → y < end → word after y ≡ f y
-  pub below : (y : ℕ) → y < start → word after y ≡ word before y
-  pub past : (y : ℕ) → end ≤ y → word after y ≡ word before y
 
 -- the word at y, with the bits of the word that is `column` further on, or of that at the left side with column k
 abbrev pub withFurther : ℕ → (ℕ → ℕ) → ℕ → ℕ
@@ -41,11 +35,11 @@ withColumns (suc k) f = withColumn k (withColumns k f)
 -- one block joined: each of the `column` words from `start` on has got the bits of the word that is `column` further on
 abbrev pub BlockJoined : ℕ → ℕ → List ℕ → List ℕ → Type 0
 BlockJoined start column before after =
-    Replaced start (start + column) (withFurther column (word before)) before after
+    Filled start (start + column) (withFurther column (word before)) before after
 
 -- the first k columns joined from `start` to `end`
 abbrev pub ColumnsJoined : ℕ → ℕ → ℕ → List ℕ → List ℕ → Type 0
-ColumnsJoined start end k before after = Replaced start end (withColumns k (word before)) before after
+ColumnsJoined start end k before after = Filled start end (withColumns k (word before)) before after
 
 -- one column joined: each of the first 2 ^ n words has got the bits of the word at its left side with column k
 pub record Joined (n k : ℕ) (before after : List ℕ) : Type 0 where

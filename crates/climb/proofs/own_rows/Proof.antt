@@ -33,7 +33,7 @@ loop-less : tie.Need-loop-less Inv-loop μ-loop
 loop-less c = search needs
 
 loop-again : tie.Need-loop-again Inv-loop μ-loop
-loop-again c = (omega arith, filled-more (c .before .loop .inv .1) (omega arith) (omega arith) refl)
+loop-again c = (omega arith, filled-more (c .before .loop .inv .1) (omega arith) (omega arith) (omega arith) refl)
 
 returns : tie.Need-returns Inv-loop μ-loop
 returns c = filled-moved (omega arith) (c .before .loop .inv .1)

@@ -71,7 +71,7 @@ loop-again c =
     let a = c .before .before .before .before .before .before .args in
     let l = c .before .before .before .before .loop in (
       omega arith,
-      filled-more (l .inv .1) (omega arith) (omega arith)
+      filled-more (l .inv .1) (omega arith) (omega arith) (omega arith)
           (c .short-at .ensures ∙ ap (λ (x : ℕ). u16At (now (a .b)) (a .o + x * a .width)) (row (c .before))),
     )
 

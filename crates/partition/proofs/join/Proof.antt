@@ -67,7 +67,7 @@ loop-again c =
     let f = c .before .before .before .before .loop .inv in
     record {
       within = omega arith;
-      words = filled-more (f .words) (omega arith) (omega (arith, length-replicate {A = ℕ} rowBound 0)) (c .word .ensures .1);
+      words = filled-more (f .words) (omega arith) (omega arith) (omega (arith, length-replicate {A = ℕ} rowBound 0)) (c .word .ensures .1);
       small = below-more (f .small) (c .word .ensures .0);
     }
 

@@ -53,7 +53,7 @@ loop-again : tie.Need-loop-again Inv-loop μ-loop
 loop-again c = record {
   within = omega arith;
   others = omega arith;
-  zeros = filled-more (c .before .loop .inv .zeros) (omega arith) (omega arith) refl;
+  zeros = filled-more (c .before .loop .inv .zeros) (omega arith) (omega arith) (omega arith) refl;
 }
 
 returns : tie.Need-returns Inv-loop μ-loop

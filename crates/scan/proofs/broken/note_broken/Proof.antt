@@ -67,7 +67,7 @@ loop-again : tie.Need-loop-again Inv-loop μ-loop
 loop-again c =
     let h = c .before .before .before .loop .inv .1 in (
       omega arith,
-      filled-more h (omega arith) (omega (arith, within c, h .same-length))
+      filled-more h (omega arith) (omega arith) (omega (arith, within c, h .same-length))
           (noted-is (c .before .before .before .before .before .before .before .args .seen .now) _ (c .before .before .before .loop .s) _ _ (c .before .before .before .before .before .power .ensures) (c .if-seen .ensures)),
     )
 

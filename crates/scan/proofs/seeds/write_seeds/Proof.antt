@@ -52,7 +52,7 @@ loop-less c = search needs
 loop-again : tie.Need-loop-again Inv-loop μ-loop
 loop-again c =
     let h = c .before .before .loop .inv .1 in
-    (omega arith, filled-more h (omega arith) (omega (arith, within c, h .same-length)) (c .gathered .ensures))
+    (omega arith, filled-more h (omega arith) (omega arith) (omega (arith, within c, h .same-length)) (c .gathered .ensures))
 
 same-length : tie.Need-same-length Inv-loop μ-loop
 same-length c = c .before .loop .inv .1 .same-length
