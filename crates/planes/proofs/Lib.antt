@@ -4,6 +4,3 @@ pub mod Filling
 pub mod Members
 pub mod Seeds
 pub mod Plane
-pub mod Pairs
-pub mod Answers
-pub mod Cursor

@@ -1,5 +1,5 @@
--- The seeds: the plane of the test that says which agree sets occur.
-use Prim.Native.Nat.{ℕ, _+_, _*_, _/_, _%_, _^_, _<_}
+-- The seeds: the plane of the test that says which agree sets occur. They stay the seeds while their words stay.
+use Prim.Native.Nat.{ℕ, _+_, _*_, _/_, _%_, _^_, _≤_, _<_}
 use mathlib.Core.Path.{_≡_, sym, ap, _∙_}
 use mathlib.Core.Logic.{_↔_}
 use mathlib.Core.Bool.{Bool}
@@ -13,8 +13,9 @@ use Rattle.model.specs.View.{View}
 use Rattle.table.specs.Words.{word}
 use Rattle.table.specs.Broken.{Occurs}
 use Rattle.table.proofs.Bits.{passes}
-use Rattle.planes.specs.Bits.{planeWord}
-use Rattle.planes.specs.Plane.{Seeds}
+use Rattle.planes.specs.Bits.{planeBit, planeWord}
+use Rattle.planes.specs.Plane.{seedWords, Seeds, Sown}
+use Rattle.planes.proofs.Bits.{power-words}
 
 planeWord-bit : (seen : ℕ → Bool) (s : ℕ) → bit (planeWord seen (s / 32)) (s % 32) ≡ pick (seen s) 1 0
 planeWord-bit seen s =
@@ -30,3 +31,18 @@ gathered-seeds v seen ws occurs gathered s l =
       λ e. occurs s l .0 (passes (seen s) .0 (sym is ∙ e)),
       λ f. is ∙ passes (seen s) .1 (occurs s l .1 f),
     )
+
+-- the same seeds
+pub sown-kept : (v : View) (n : ℕ) (before after : List ℕ) → 5 ≤ n
+    → ((i : ℕ) → i < seedWords n → word after i ≡ word before i) → Sown v n before → Sown v n after
+sown-kept v n before after h kept s =
+    record {
+      members = s .members;
+      equivalence = s .equivalence;
+      seeds = λ x l. (λ e. s .seeds x l .0 (sym (same x l) ∙ e), λ f. same x l ∙ s .seeds x l .1 f);
+    }
+  where
+    same : (x : ℕ) → x < 2 ^ v .members → planeBit after x ≡ planeBit before x
+    same x l =
+        let p : 2 ^ v .members ≡ 2 ^ n = ap (λ (m : ℕ). 2 ^ m) (s .members) in
+        ap (λ (w : ℕ). bit w (x % 32)) (kept (x / 32) (omega (arith, power-words n h)))

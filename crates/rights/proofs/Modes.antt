@@ -17,8 +17,9 @@ use Rattle.model.specs.Target.{view}
 use Rattle.table.specs.Words.{word, Read}
 use Rattle.table.specs.Broken.{Table, rightsMask as minimalMask}
 use Rattle.table.proofs.Table.{rights-mask}
-use Rattle.planes.specs.Cache.{seedWords, Roomy, Sown, RightsFrom, Ready as Cached}
-use Rattle.planes.proofs.Cursor.{roomy-begun, ready-begun}
+use Rattle.planes.specs.Plane.{seedWords, Sown}
+use Rattle.blocks.specs.Cache.{Roomy, RightsFrom, Ready as Cached}
+use Rattle.blocks.proofs.Cursor.{roomy-begun, ready-begun}
 use Rattle.leaders.specs.Keys.{keyView, LaidFor, Keyed}
 use Rattle.leaders.proofs.Keys.{keyed-rights}
 use Rattle.keys.proofs.Catalogue.{laid-catalogue}

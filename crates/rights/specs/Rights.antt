@@ -16,7 +16,7 @@ use Rattle.model.specs.Entry.{entry}
 use Rattle.model.specs.declared.Entry.{Entry}
 use Rattle.columns.specs.Set.{setBelow}
 use Rattle.table.specs.Broken.{Table}
-use Rattle.planes.specs.Cache.{Roomy, Ready as Cached}
+use Rattle.blocks.specs.Cache.{Roomy, Ready as Cached}
 -- the right side that bit a stands for
 unfoldable pub use Rattle.table.specs.Broken.{rightAt}
 

@@ -1,6 +1,6 @@
 // Not for callers: the listed rights of one left side, for the listing call: by itself (`alone`), or by what is kept in the work words. Then `prepare` is called
 // where a call enters a target, and `rights` for each left side of it; what the two keep in the words between calls is theirs alone.
-// Relies on `keys` for the keys of a target, on `scan`, `table` and `planes` for what the words hold, and on `partition` for one left side alone. Only the
+// Relies on `keys` for the keys of a target, on `scan`, `table` and `blocks` for what the words hold, and on `partition` for one left side alone. Only the
 // laying of keys looks at the catalogue. Called by `walk` and `steps`.
 ghost use mathlib.Core.Path.{_≡_};
 ghost use Prim.Native.Nat.{suc, _-_, _^_, _≤_, _<_};
@@ -122,5 +122,5 @@ pub fn rights(cat: &[u8], target: u32, left: u32, mode: u32, work: &mut [u32]) -
     if mode < NARROW {
         return table::minimal_rights(work, left, mode);
     }
-    planes::rights_from(work, visible(cat, target), mode - NARROW, left)
+    blocks::rights_from(work, visible(cat, target), mode - NARROW, left)
 }

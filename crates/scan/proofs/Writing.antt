@@ -21,10 +21,9 @@ use Rattle.table.specs.Broken.{Occurs, Table}
 use Rattle.table.proofs.Scan.{noted-scanned}
 use Rattle.table.proofs.Table.{scanned-closed-table}
 use Rattle.planes.specs.Bits.{planeBit, planeWord}
-use Rattle.planes.specs.Cache.{seedWords, Sown}
-use Rattle.planes.proofs.Answers.{sown-kept}
+use Rattle.planes.specs.Plane.{seedWords, Sown}
 use Rattle.planes.proofs.Bits.{power-words}
-use Rattle.planes.proofs.Seeds.{gathered-seeds}
+use Rattle.planes.proofs.Seeds.{gathered-seeds, sown-kept}
 use Rattle.leaders.specs.Keys.{keyView, Keyed}
 use Rattle.leaders.proofs.Keys.{key-equivalence, keyed-table, keyed-seeds}
 use Rattle.scan.specs.Seen.{Seen, seenAt, notedWord}

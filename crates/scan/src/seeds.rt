@@ -7,7 +7,7 @@ ghost use Rattle.model.specs.Bounds.{rowBound};
 ghost use Rattle.model.specs.View.{View, Equivalence};
 ghost use Rattle.table.specs.Words.{word};
 ghost use Rattle.planes.specs.Bits.{planeWord};
-ghost use Rattle.planes.specs.Cache.{seedWords, Sown};
+ghost use Rattle.planes.specs.Plane.{seedWords, Sown};
 ghost use Rattle.leaders.specs.Keys.{Keyed};
 ghost use Rattle.filled.specs.Filled.{Filled};
 ghost use Rattle.scan.specs.Seen.{seenAt};

@@ -5,7 +5,7 @@ use Rattle.model.proofs.Check.{accepted-visible}
 use Prim.Native.Nat.{ℕ, _^_, _<_}
 use mathlib.Core.Path.{sym, subst}
 use Rattle.model.specs.Target.{view}
-use Rattle.planes.specs.Cache.{Roomy}
+use Rattle.blocks.specs.Cache.{Roomy}
 use Rattle.rights.specs.Rights.{ownMask}
 use Rattle.rights.proofs.Own.{own-mask-lt}
 use Rattle.rights.proofs.Modes.{is-rights, words-ready, ready-words, table-rights, narrow-rights}

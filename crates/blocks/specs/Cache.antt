@@ -1,22 +1,19 @@
 -- The cache behind the seeds: a word for the cursor, a word for how many pairs stand there, and the pairs, each a left
 -- side and its listed rights. What the functions that write and read it promise.
-use Prim.Native.Nat.{ℕ, suc, _+_, _-_, _*_, _^_, _≤_, _<_}
+use Prim.Native.Nat.{ℕ, suc, _+_, _*_, _^_, _≤_, _<_}
 use mathlib.Core.Path.{_≡_}
 use mathlib.Core.Logic.{_↔_}
 use mathlib.Core.Bool.{Bool, true, _&&_}
 use mathlib.Core.List.{List}
 use lib.ListN.{length}
 use Rattle.columns.specs.Test.{pick}
-use Rattle.model.specs.View.{View, Equivalence, isIn, minimal}
+use Rattle.model.specs.View.{View, isIn, minimal}
 use Rattle.table.specs.Words.{word}
 use Rattle.table.specs.Broken.{rightAt, rightsMask}
 use Rattle.planes.specs.Bits.{Narrow}
-use Rattle.planes.specs.Plane.{Seeds, Cached}
+use Rattle.planes.specs.Plane.{seedWords, Sown}
 
--- how many words the seeds of n columns take: the cursor stands behind them, then the count, then the pairs
-abbrev pub seedWords : ℕ → ℕ
-seedWords n = 2 ^ (n - 5)
-
+-- where the pairs begin: behind the seeds, the cursor and the count
 abbrev pub pairsAt : ℕ → ℕ
 pairsAt n = seedWords n + 2
 
@@ -29,13 +26,15 @@ pub record Roomy (n : ℕ) (ws : List ℕ) : Type 0 where
   pub one : pairsAt n + 2 ≤ length ws
   pub count : leftAt n (word ws (seedWords n + 1)) ≤ length ws
 
--- the words hold the seeds of a target of n columns
-pub record Sown (v : View) (n : ℕ) (ws : List ℕ) : Type 0 where
-  pub members : v .members ≡ n
-  pub equivalence : Equivalence v
-  pub seeds : Seeds v ws
+-- pairs of words from a place on: a left side, and behind it its listed rights
+pub record CachedPair (v : View) (own : ℕ) (ws : List ℕ) (at : ℕ) : Type 0 where
+  pub left : word ws at < 2 ^ v .members
+  pub rights : word ws (suc at) ≡ rightsMask v own (word ws at)
 
--- and the pairs behind them are right
+abbrev pub Cached : View → ℕ → List ℕ → ℕ → ℕ → Type 0
+Cached v own ws from count = (j : ℕ) → j < count → CachedPair v own ws (from + 2 * j)
+
+-- the words hold the seeds, and the pairs behind them are right
 pub record Ready (v : View) (n own : ℕ) (ws : List ℕ) : Type 0 where
   pub sown : Sown v n ws
   pub cached : Cached v own ws (pairsAt n) (word ws (seedWords n + 1))

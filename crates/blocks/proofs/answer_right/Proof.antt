@@ -1,10 +1,10 @@
--- `planes::answer_right` meets its contract.
+-- `blocks::answer_right` meets its contract.
 use native.Mathlib.Omega.{arith}
 use borrow.Author.Needs.{needs}
-use Rattle.planes.proofs.Answers.{answered-none, answered-some}
-use Rattle.planes.proofs.Pairs.{seedWords-small}
-use Rattle.planes.proofs.answer_right.Statement.{statement}
-use Rattle.planes.proofs.answer_right.Tie as tie
+use Rattle.blocks.proofs.Answers.{answered-none, answered-some}
+use Rattle.blocks.proofs.Pairs.{seedWords-small}
+use Rattle.blocks.proofs.answer_right.Statement.{statement}
+use Rattle.blocks.proofs.answer_right.Tie as tie
 
 shr-if1 : tie.Need-shr-if1
 shr-if1 c = search needs

@@ -1,8 +1,8 @@
--- `planes::room` meets its contract.
+-- `blocks::room` meets its contract.
 use borrow.Author.Needs.{needs}
 use lib.Pow.{pow-pos}
-use Rattle.planes.proofs.room.Statement.{statement}
-use Rattle.planes.proofs.room.Tie as tie
+use Rattle.blocks.proofs.room.Statement.{statement}
+use Rattle.blocks.proofs.room.Tie as tie
 
 power-requires : tie.Need-power-requires
 power-requires c κs = search needs

@@ -1,5 +1,5 @@
 -- Answering a block: right by right, the rights of each pair become those that are listed for its left side.
-use Prim.Native.Nat.{ℕ, suc, _+_, _/_, _%_, _^_, _≤_, _<_}
+use Prim.Native.Nat.{ℕ, suc, _+_, _^_, _≤_, _<_}
 use mathlib.Core.Path.{_≡_, refl, sym, ap, ap₂, subst, _∙_}
 use mathlib.Core.Logic.{_↔_}
 use mathlib.Core.Bool.{Bool, true, false, _&&_}
@@ -15,27 +15,13 @@ use Rattle.columns.specs.Test.{pick}
 use Rattle.model.specs.View.{View, minimal}
 use Rattle.table.specs.Words.{word}
 use Rattle.table.specs.Broken.{rightAt}
-use Rattle.planes.specs.Bits.{planeBit, Filled, Narrow}
-use Rattle.planes.specs.Cache.{seedWords, pairsAt, leftAt, Sown, listed, Room, Lefts, AddedBelow, PairsBelow}
-use Rattle.planes.specs.Cache.{Answered, Block}
-use Rattle.planes.proofs.Bits.{power-words}
+use Rattle.planes.specs.Bits.{Filled, Narrow}
+use Rattle.planes.specs.Plane.{Sown}
 use Rattle.planes.proofs.Plane.{seeds-filled-plane, narrow-is}
-use Rattle.planes.proofs.Pairs.{added-le}
-
--- the same seeds
-pub sown-kept : (v : View) (n : ℕ) (before after : List ℕ) → 5 ≤ n
-    → ((i : ℕ) → i < seedWords n → word after i ≡ word before i) → Sown v n before → Sown v n after
-sown-kept v n before after h kept s =
-    record {
-      members = s .members;
-      equivalence = s .equivalence;
-      seeds = λ x l. (λ e. s .seeds x l .0 (sym (same x l) ∙ e), λ f. same x l ∙ s .seeds x l .1 f);
-    }
-  where
-    same : (x : ℕ) → x < 2 ^ v .members → planeBit after x ≡ planeBit before x
-    same x l =
-        let p : 2 ^ v .members ≡ 2 ^ n = ap (λ (m : ℕ). 2 ^ m) (s .members) in
-        ap (λ (w : ℕ). bit w (x % 32)) (kept (x / 32) (omega (arith, power-words n h)))
+use Rattle.planes.proofs.Seeds.{sown-kept}
+use Rattle.blocks.specs.Cache.{pairsAt, leftAt, listed, Room, Lefts, AddedBelow, PairsBelow}
+use Rattle.blocks.specs.Cache.{Answered, Block}
+use Rattle.blocks.proofs.Pairs.{added-le}
 
 -- a right asked for is listed exactly if its plane shows it
 test-listed : (v : View) (n own a x : ℕ) (seeds plane : List ℕ) (t : Bool) → Sown v n seeds → n ≤ columnBound → a ≤ n

@@ -12,9 +12,9 @@ use Rattle.model.specs.View.{View}
 use Rattle.model.proofs.Truth.{true-is, eqb-is}
 use Rattle.table.specs.Words.{word}
 use Rattle.table.specs.Broken.{rightsMask}
-use Rattle.planes.specs.Plane.{Cached}
-use Rattle.planes.specs.Cache.{seedWords, pairsAt, leftAt, Roomy, Sown, Ready, Block, AtCursor, RightsFrom}
-use Rattle.planes.proofs.Answers.{sown-kept}
+use Rattle.planes.specs.Plane.{seedWords, Sown}
+use Rattle.planes.proofs.Seeds.{sown-kept}
+use Rattle.blocks.specs.Cache.{pairsAt, leftAt, Roomy, Cached, Ready, Block, AtCursor, RightsFrom}
 
 -- words whose count is 0 are ready once they hold the seeds
 pub roomy-begun : (n : ℕ) (ws : List ℕ) → pairsAt n + 2 ≤ length ws → word ws (seedWords n + 1) ≡ 0 → Roomy n ws

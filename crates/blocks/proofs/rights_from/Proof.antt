@@ -1,12 +1,12 @@
--- `planes::rights_from` meets its contract: by the cursor's pair, or by a new block.
+-- `blocks::rights_from` meets its contract: by the cursor's pair, or by a new block.
 use Prim.Native.Nat.{_+_}
 use native.Mathlib.Omega.{arith}
 use lib.ListN.{length-set}
 use borrow.Author.Needs.{needs}
-use Rattle.planes.specs.Cache.{seedWords}
-use Rattle.planes.proofs.Cursor.{at-cursor-inside, at-cursor-fits, cursor-rights, block-rights}
-use Rattle.planes.proofs.rights_from.Statement.{statement}
-use Rattle.planes.proofs.rights_from.Tie as tie
+use Rattle.planes.specs.Plane.{seedWords}
+use Rattle.blocks.proofs.Cursor.{at-cursor-inside, at-cursor-fits, cursor-rights, block-rights}
+use Rattle.blocks.proofs.rights_from.Statement.{statement}
+use Rattle.blocks.proofs.rights_from.Tie as tie
 
 sub-power : tie.Need-sub-power
 sub-power c = search needs

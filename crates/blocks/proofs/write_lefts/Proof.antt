@@ -1,4 +1,4 @@
--- `planes::write_lefts` meets its contract. The loop's invariant: `j` left sides are written, and `x` is the next.
+-- `blocks::write_lefts` meets its contract. The loop's invariant: `j` left sides are written, and `x` is the next.
 use Prim.Native.Nat.{_-_, _≤_}
 use mathlib.Core.Path.{_≡_}
 use native.Mathlib.Omega.{arith}
@@ -7,10 +7,10 @@ use borrow.Author.Needs.{needs}
 use Rattle.columns.specs.Order.{nextOf}
 use Rattle.columns.specs.Set.{membersOf}
 use Rattle.columns.specs.declared.SetOrNone.the-variants.{Set}
-use Rattle.planes.proofs.Pairs.{LeftsBelow, lefts-begun, lefts-more, lefts-done}
-use Rattle.planes.proofs.Pairs.{next-below, room-small, seedWords-small}
-use Rattle.planes.proofs.write_lefts.Statement.{statement}
-use Rattle.planes.proofs.write_lefts.Tie as tie
+use Rattle.blocks.proofs.Pairs.{LeftsBelow, lefts-begun, lefts-more, lefts-done}
+use Rattle.blocks.proofs.Pairs.{next-below, room-small, seedWords-small}
+use Rattle.blocks.proofs.write_lefts.Statement.{statement}
+use Rattle.blocks.proofs.write_lefts.Tie as tie
 
 abbrev Inv-loop : tie.InvT-loop
 Inv-loop words₀ n first pairs from x₀ j₀ words x j = (j ≤ pairs) × LeftsBelow n first x j words₀ words

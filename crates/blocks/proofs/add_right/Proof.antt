@@ -1,14 +1,14 @@
--- `planes::add_right` meets its contract. The loop's invariant: the right is added to the first `j` pairs.
+-- `blocks::add_right` meets its contract. The loop's invariant: the right is added to the first `j` pairs.
 use Prim.Native.Nat.{_-_, _≤_}
 use mathlib.Core.Path.{_≡_}
 use native.Mathlib.Omega.{arith}
 use lib.ListN.{length}
 use borrow.Author.Needs.{needs}
-use Rattle.planes.specs.Cache.{AddedBelow}
-use Rattle.planes.proofs.Pairs.{adding-begun, adding-more, adding-index, adding-fits, adding-done}
-use Rattle.planes.proofs.Pairs.{room-small, seedWords-small}
-use Rattle.planes.proofs.add_right.Statement.{statement}
-use Rattle.planes.proofs.add_right.Tie as tie
+use Rattle.blocks.specs.Cache.{AddedBelow}
+use Rattle.blocks.proofs.Pairs.{adding-begun, adding-more, adding-index, adding-fits, adding-done}
+use Rattle.blocks.proofs.Pairs.{room-small, seedWords-small}
+use Rattle.blocks.proofs.add_right.Statement.{statement}
+use Rattle.blocks.proofs.add_right.Tie as tie
 
 abbrev Inv-loop : tie.InvT-loop
 Inv-loop words₀ n count a plane from j₀ words j =

@@ -1,11 +1,11 @@
--- `planes::answer_block` meets its contract. The loop's invariant: the rights below `a` are answered.
+-- `blocks::answer_block` meets its contract. The loop's invariant: the rights below `a` are answered.
 use Prim.Native.Nat.{suc, _-_, _≤_}
 use native.Mathlib.Omega.{arith}
 use borrow.Author.Needs.{needs}
-use Rattle.planes.proofs.Answers.{AnsweredBelow, answering-begun, answering-pairs, answering-more}
-use Rattle.planes.proofs.Answers.{room-same, block-done}
-use Rattle.planes.proofs.answer_block.Statement.{statement}
-use Rattle.planes.proofs.answer_block.Tie as tie
+use Rattle.blocks.proofs.Answers.{AnsweredBelow, answering-begun, answering-pairs, answering-more}
+use Rattle.blocks.proofs.Answers.{room-same, block-done}
+use Rattle.blocks.proofs.answer_block.Statement.{statement}
+use Rattle.blocks.proofs.answer_block.Tie as tie
 
 abbrev Inv-loop : tie.InvT-loop
 Inv-loop words₀ n own first count a₀ words a = (a ≤ suc n) × AnsweredBelow n own a count words₀ words

@@ -1,10 +1,10 @@
--- `planes::at_cursor` meets its contract.
+-- `blocks::at_cursor` meets its contract.
 use native.Mathlib.Omega.{arith}
 use borrow.Author.Needs.{needs}
 use Rattle.model.proofs.Truth.{true-is}
-use Rattle.planes.proofs.Cursor.{cursor-inside, at-cursor-is}
-use Rattle.planes.proofs.at_cursor.Statement.{statement}
-use Rattle.planes.proofs.at_cursor.Tie as tie
+use Rattle.blocks.proofs.Cursor.{cursor-inside, at-cursor-is}
+use Rattle.blocks.proofs.at_cursor.Statement.{statement}
+use Rattle.blocks.proofs.at_cursor.Tie as tie
 
 sub-power : tie.Need-sub-power
 sub-power c = search needs

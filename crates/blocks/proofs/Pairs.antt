@@ -18,9 +18,10 @@ use Rattle.columns.specs.declared.SetOrNone.the-variants.{Set, Nothing}
 use Rattle.columns.proofs.Order.{mem-inOrder}
 use Rattle.columns.proofs.Test.{ifEq-yes, ifEq-no, ifLe-yes}
 use Rattle.table.specs.Words.{word}
 use Rattle.planes.specs.Bits.{Narrow}
-use Rattle.planes.specs.Cache.{seedWords, pairsAt, leftAt, Room, Lefts, Added, AddedBelow, PairsBelow}
+use Rattle.planes.specs.Plane.{seedWords}
 use Rattle.planes.proofs.Bits.{power-words}
+use Rattle.blocks.specs.Cache.{pairsAt, leftAt, Room, Lefts, Added, AddedBelow, PairsBelow}
 
 -- the next left side is one of n columns
 first-mem : (y : ℕ) (ys : List ℕ) → first ys ≡ Set (setOf y) → List·Memᴰ y ys

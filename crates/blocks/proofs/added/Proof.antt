@@ -1,8 +1,8 @@
--- `planes::added` meets its contract.
+-- `blocks::added` meets its contract.
 use borrow.Author.Needs.{needs}
-use Rattle.planes.proofs.Pairs.{added-yes, added-no}
-use Rattle.planes.proofs.added.Statement.{statement}
-use Rattle.planes.proofs.added.Tie as tie
+use Rattle.blocks.proofs.Pairs.{added-yes, added-no}
+use Rattle.blocks.proofs.added.Statement.{statement}
+use Rattle.blocks.proofs.added.Tie as tie
 
 is-minimal-requires : tie.Need-is-minimal-requires
 is-minimal-requires c κs = search needs
