@@ -1,16 +1,15 @@
 // Lists a catalogue: reads it from standard input and prints its whole listing, or why it has none.
-// Relies on `listing` for the entries, on `layout` for the check's grounds and on `text` for what is put. The text is `answerText` of `model`:
-// `print` makes it page by page, and only reading and writing are beyond its contract.
-mod lines;
-mod pages;
-
+// Relies on `pages` for the text and on `text` for writing it. The text is `answerText` of `model`: `print` writes it page by page, and only
+// reading and writing are beyond its contract.
 ghost use mathlib.Core.Path.{_≡_};
 ghost use lib.ListN.{length};
-ghost use Rattle.list.specs.Pages.{pageBound, wordCount};
+ghost use Rattle.model.specs.Text.{answerText};
+ghost use Rattle.pages.specs.Pages.{pageBound, wordCount, Lent};
 use libc::STDIN_FILENO;
 use listing::RUN_BOUND;
 use model::FILE_BOUND;
-use pages::print;
+use pages::first_page;
+use pages::next_page;
 
 // How many bytes the line of an entry has at most, how many are kept for the head line, and how many a page has.
 const LINE_BOUND: usize = 13;
@@ -34,6 +33,20 @@ fn work_words() -> [u32; WORDS]
     ensures { λ r. ⌜ wordCount ≡ length r ⌝ }
 {
     [0; WORDS]
+}
+
+// Prints every page, and answers how many bytes were handed to standard output: as many as the whole text has.
+fn print(file: &[u8], out: &mut [u8], work: &mut [u32]) -> usize
+    requires { ⌜ Lent (now out) (now work) ⌝ }
+    ensures { λ r. ⌜ r ≡ length (answerText (now (file .entry))) ⌝ }
+{
+    let mut page = first_page(file, out, work);
+    let mut sum = text::write(out, page.len);
+    while page.place < page.last {
+        page = next_page(file, page, out, work);
+        sum += text::write(out, page.len);
+    }
+    sum
 }
 
 fn main() {

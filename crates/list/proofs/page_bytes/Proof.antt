@@ -2,7 +2,7 @@
 use Prim.Native.Nat.{ℕ}
 use mathlib.Core.Path.{sym}
 use lib.ListN.{length-replicate}
-use Rattle.list.specs.Pages.{pageBound}
+use Rattle.pages.specs.Pages.{pageBound}
 use Rattle.list.proofs.page_bytes.Statement.{statement}
 use Rattle.list.proofs.page_bytes.Tie as tie
 
