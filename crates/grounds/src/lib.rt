@@ -1,6 +1,7 @@
 // Not for callers: the grounds against a file: refusals 1 to 7, one function for each, tried in the stated order. A ground's code is the
 // refusal's number, or 0 where there is none; in `code`, the numbers of all refusals.
-// Relies on `layout` for what stands where and on the definitions of `model`. Called by `catalogue`, `dependency`, `steps` and `pages`.
+// Relies on `layout` for what stands where and on the definitions of `model`. Called by `catalogue`, `question`,
+// `dependency`, `steps` and `pages`.
 mod code;
 
 pub use code::TOO_FEW_WORDS;

@@ -3,8 +3,8 @@ use mathlib.Core.Path.{refl}
 use native.Mathlib.Omega.{arith}
 use Rattle.columns.proofs.Test.{is-if-lt, is-if-not-lt}
 use Rattle.model.specs.Question.{wordsCode}
-use Rattle.dependency.proofs.question.words_code.Statement.{statement}
-use Rattle.dependency.proofs.question.words_code.Tie as tie
+use Rattle.question.proofs.words_code.Statement.{statement}
+use Rattle.question.proofs.words_code.Tie as tie
 
 returns : tie.Need-returns
 unfolding wordsCode

@@ -4,8 +4,8 @@ use native.Mathlib.Omega.{arith}
 use Rattle.columns.proofs.Test.{is-if-lt, is-if-not-lt}
 use Rattle.model.specs.Question.{targetCode}
 use borrow.Author.Needs.{needs}
-use Rattle.dependency.proofs.question.target_code.Statement.{statement}
-use Rattle.dependency.proofs.question.target_code.Tie as tie
+use Rattle.question.proofs.target_code.Statement.{statement}
+use Rattle.question.proofs.target_code.Tie as tie
 
 tables-requires : tie.Need-tables-requires
 tables-requires c κs = search needs

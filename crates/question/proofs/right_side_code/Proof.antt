@@ -4,8 +4,8 @@ use native.Mathlib.Omega.{arith}
 use Rattle.columns.proofs.Test.{is-if-eq, is-if-ne, is-if-lt, is-if-not-lt}
 use Rattle.model.specs.Question.{rightSideCode}
 use borrow.Author.Needs.{needs}
-use Rattle.dependency.proofs.question.right_side_code.Statement.{statement}
-use Rattle.dependency.proofs.question.right_side_code.Tie as tie
+use Rattle.question.proofs.right_side_code.Statement.{statement}
+use Rattle.question.proofs.right_side_code.Tie as tie
 
 returns : tie.Need-returns
 unfolding rightSideCode

@@ -1,4 +1,6 @@
-// The refusals of a question: those of the check, then 8 to 11, by number. A ground's code is the refusal's number, or 0 where there is none.
+// Not for callers: the refusals of a question: those of the check, then 8 to 11, by number. A ground's code is the refusal's number, or 0 where
+// there is none.
+// Relies on `grounds` for the check's grounds and on `layout` for what stands where. Called by `dependency`.
 ghost use mathlib.Core.Path.{_≡_};
 ghost use Rattle.model.specs.Question.{targetCode, leftSideCode, rightSideCode, wordsCode, questionCode};
 use grounds::TOO_FEW_WORDS;

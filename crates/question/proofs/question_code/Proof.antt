@@ -5,8 +5,8 @@ use Rattle.grounds.proofs.First.{is-this, is-next}
 use Rattle.model.specs.Refusal.{orElse}
 use Rattle.model.specs.Question.{questionCode}
 use borrow.Author.Needs.{needs}
-use Rattle.dependency.proofs.question.question_code.Statement.{statement}
-use Rattle.dependency.proofs.question.question_code.Tie as tie
+use Rattle.question.proofs.question_code.Statement.{statement}
+use Rattle.question.proofs.question_code.Tie as tie
 
 next : {c a q b : ℕ} → c ≡ a → c ≡ 0 → q ≡ b → q ≡ orElse a b
 next e z p = is-next _ (sym e ∙ z) p

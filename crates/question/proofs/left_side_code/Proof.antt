@@ -8,8 +8,8 @@ use lib.Pow.{pow-pos, pow-mono, split}
 use Rattle.columns.proofs.Test.{is-if-lt, is-if-not-lt}
 use Rattle.model.specs.Question.{leftSideCode}
 use borrow.Author.Needs.{needs}
-use Rattle.dependency.proofs.question.left_side_code.Statement.{statement}
-use Rattle.dependency.proofs.question.left_side_code.Tie as tie
+use Rattle.question.proofs.left_side_code.Statement.{statement}
+use Rattle.question.proofs.left_side_code.Tie as tie
 
 short : {x n v : ℕ} → x < 2 ^ 32 → n ≡ v → 32 ≤ n → x < 2 ^ v
 short {n} {v} h e l = let m : 32 ≤ v = omega arith in lt-of-lt-of-le h (pow-mono m)
