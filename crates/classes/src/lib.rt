@@ -1,6 +1,6 @@
 // Not for callers: the classes of rows that have the same key on a member, numbered in a byte each, for the members with at most 256 of them. Rows are then
 // compared by bytes, twice as many at a time as by keys.
-// Relies on the definitions of `leaders` for keys. Called by `scan`.
+// Relies on the definitions of `leaders` for keys and on a law of `filled`. Called by `scan`.
 ghost use Prim.Native.Nat.{_+_, _≤_, _<_};
 ghost use mathlib.Core.Path.{_≡_};
 ghost use lib.ListN.{length};
