@@ -30,12 +30,12 @@ use denote.Triple.Spec.{tripleOf}
 use denote.Triple.Statement.{Contract}
 use denote.Triple.Clauses.{ensured, lasts}
 use denote.Triple.Walked.{says}
-use Rattle.walk.specs.declared.Walk.{Walk}
+use Rattle.passing.specs.declared.Walk.{Walk}
 use Rattle.steps.specs.declared.Stepped.{Stepped}
 use Rattle.walk.specs.Meaning.{Good}
 use Rattle.steps.specs.Steps.{Began, Went}
-use Rattle.walk.proofs.Walk as K
-use Rattle.walk.proofs.Walk.Laws as K′
+use Rattle.passing.proofs.Walk as K
+use Rattle.passing.proofs.Walk.Laws as K′
 use Rattle.steps.proofs.Stepped as S
 use Rattle.steps.proofs.Stepped.Laws as S′
 use Rattle.steps.proofs.begin as begin

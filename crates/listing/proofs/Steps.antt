@@ -10,7 +10,7 @@ use Rattle.model.specs.Calls.{runAfter}
 use Rattle.model.specs.Reply.{replyOf, listReply}
 use Rattle.model.specs.declared.Entry.{Entry}
 use Rattle.model.specs.declared.ListAnswer.{ListAnswer}
-use Rattle.walk.specs.declared.Walk.{Walk}
+use Rattle.passing.specs.declared.Walk.{Walk}
 use Rattle.steps.specs.declared.Stepped.{Stepped}
 use Rattle.steps.specs.declared.Stepped.the-variants.{Put, Done}
 use Rattle.walk.specs.Meaning.{code as codeOf, Good}

@@ -25,10 +25,10 @@ use Rattle.grounds.proofs.Sound.{check-code-le}
 use Rattle.walk.specs.Meaning.{cellsOf, code, ahead, final}
 use Rattle.steps.specs.Steps.{due, Began, Went, whole, values}
 use Rattle.walk.specs.Walks.{First, Passes, cellOf}
-use Rattle.walk.specs.declared.Walk.{Walk}
+use Rattle.passing.specs.declared.Walk.{Walk}
 use Rattle.steps.specs.declared.Stepped.{Stepped}
 use Rattle.steps.specs.declared.Stepped.the-variants.{Done}
-use Rattle.walk.specs.declared.Reached.the-variants.{At, Stop}
+use Rattle.passing.specs.declared.Reached.the-variants.{At, Stop}
 use Rattle.steps.proofs.Stepping.{kept-after}
 use Rattle.walk.proofs.Stands.{drop-here, drop-inside}
 use Rattle.walk.proofs.Walks.{ahead-next, cell-here}

@@ -12,7 +12,7 @@ use Rattle.model.specs.Bounds.{row}
 use Rattle.model.specs.Entry.{entry}
 use Rattle.rights.specs.Rights.{rightAt, entriesOfMask, lowest}
 use Rattle.rights.proofs.Mask.{entries-lowest, lowest-le, lowest-bit}
-use Rattle.walk.specs.declared.Walk.{Walk}
+use Rattle.passing.specs.declared.Walk.{Walk}
 use Rattle.steps.specs.Puts.{Puts, putFrom}
 use Rattle.steps.specs.declared.Stepped.the-variants.{Put}
 

@@ -14,8 +14,8 @@ use Rattle.model.specs.declared.ListAnswer.the-variants as answer
 use Rattle.model.proofs.Check.{accepted-visible, accepted-tables}
 use Rattle.walk.specs.Meaning.{cellsOf, ahead, final, Good}
 use Rattle.walk.specs.Walks.{Same, Goes}
-use Rattle.walk.specs.declared.Walk.{Walk}
-use Rattle.walk.specs.declared.Reached.the-variants.{At, Stop}
+use Rattle.passing.specs.declared.Walk.{Walk}
+use Rattle.passing.specs.declared.Reached.the-variants.{At, Stop}
 use Rattle.walk.proofs.Stands.{chosen-lt}
 use Rattle.steps.specs.Puts.{Puts, putFrom}
 use Rattle.steps.specs.Steps.{Kept, Moved, Went}

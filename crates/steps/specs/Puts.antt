@@ -3,7 +3,7 @@ use Prim.Native.Nat.{ℕ, suc, _-_, _^_, _≤_, _<_}
 use Rattle.columns.specs.Bound.{columnBound}
 use Rattle.model.specs.Entry.{entry}
 use Rattle.rights.specs.Rights.{rightAt, lowest}
-use Rattle.walk.specs.declared.Walk.{Walk}
+use Rattle.passing.specs.declared.Walk.{Walk}
 use Rattle.steps.specs.declared.Stepped.{Stepped}
 use Rattle.steps.specs.declared.Stepped.the-variants.{Put}
 

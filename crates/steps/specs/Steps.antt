@@ -8,7 +8,7 @@ use Rattle.columns.specs.Test.{ifEq}
 use Rattle.model.specs.Calls.{passed, written, workAfter}
 use Rattle.model.specs.Reply.{Reply, replyOf, listReply}
 use Rattle.model.specs.declared.Entry.{Entry}
-use Rattle.walk.specs.declared.Walk.{Walk}
+use Rattle.passing.specs.declared.Walk.{Walk}
 use Rattle.steps.specs.declared.Stepped.{Stepped}
 use Rattle.steps.specs.declared.Stepped.the-variants.{Put, Done}
 use Rattle.walk.specs.Meaning.{cellsOf, code, ahead, final, Good}

@@ -1,6 +1,7 @@
 // Not for callers: the steps of a listing call, from entry to entry: `begin` and `step` decide everything, keep the work words and look at no
 // record.
-// Relies on `walk` for going from set to set, on `rights` for the numbers of rights and on `grounds` for the check's grounds. Called by `listing`.
+// Relies on `walk` for going from set to set, on `passing` for the walk's type, on `rights` for the numbers of rights and on `grounds` for the check's
+// grounds. Called by `listing`.
 mod put;
 
 ghost use Rattle.walk.specs.Meaning.{Good};
@@ -12,9 +13,9 @@ use lent::zero_words;
 use model::Entry;
 use model::ListAnswer;
 use model::Refusal;
+use passing::Reached;
+use passing::Walk;
 use put::put;
-use walk::Reached;
-use walk::Walk;
 use walk::locate::first;
 use walk::onward::onward;
 use walk::onward::pass_first;

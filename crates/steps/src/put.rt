@@ -4,7 +4,7 @@ ghost use Rattle.steps.specs.Puts.{Puts, putFrom};
 use crate::Stepped;
 use bits::power;
 use model::Entry;
-use walk::Walk;
+use passing::Walk;
 
 // The entry of the lowest pending right, and the walk without it.
 pub fn put(w: Walk) -> Stepped

@@ -23,14 +23,15 @@ use Rattle.model.specs.Reply.{answered}
 use Rattle.model.specs.declared.Entry.{Entry}
 use Rattle.model.proofs.Calls.{passed-nil, written-nil, passed-spent, written-spent, passed-full, written-full, passed-fit, written-fit}
 use Rattle.model.proofs.Check.{accepted-visible}
+use Rattle.passing.specs.Pass.{rightBound, passedOn, passedBy, Passable}
+use Rattle.passing.specs.declared.Walk.{Walk}
+use Rattle.passing.specs.declared.Reached.{Reached}
+use Rattle.passing.specs.declared.Reached.the-variants.{At, Stop}
 use Rattle.rights.specs.Rights.{rightsMask, entriesOfMask, Ready}
 use Rattle.rights.proofs.Mask.{mask-lt, entries-count, entries-none, entries-of-rights}
 use Rattle.walk.specs.Stands.{Stands, StandsBefore, Found}
-use Rattle.walk.specs.Meaning.{cellsOf, ahead, final, rightBound, Good}
-use Rattle.walk.specs.Walks.{Fresh, First, Same, cellOf, passedOn, passedBy, Passable, withMode, Passes, After, Follows, Stopped, Goes}
-use Rattle.walk.specs.declared.Walk.{Walk}
-use Rattle.walk.specs.declared.Reached.{Reached}
-use Rattle.walk.specs.declared.Reached.the-variants.{At, Stop}
+use Rattle.walk.specs.Meaning.{cellsOf, ahead, final, Good}
+use Rattle.walk.specs.Walks.{Fresh, First, Same, cellOf, withMode, Passes, After, Follows, Stopped, Goes}
 use Rattle.walk.proofs.Stands.{stands-cells, stands-inside, stands-before, chosen-lt, next-within, next-target, next-none, found-stands, sets-le}
 
 answers : {a b c d e f : ℕ} → a ≡ d → b ≡ e → c ≡ f → answered (a ∷ b ∷ c ∷ []) ≡ answered (d ∷ e ∷ f ∷ [])

@@ -3,7 +3,6 @@ use Prim.Native.Nat.{ℕ, suc, _+_, _*_, _^_, _≤_, _<_}
 use mathlib.Core.Path.{_≡_}
 use mathlib.Core.List.{List, [], _∷_, _++_}
 use lib.ListN.{length, drop}
-use Rattle.columns.specs.Bound.{columnBound}
 use Rattle.model.specs.Bounds.{workBound}
 use Rattle.model.specs.Catalogue.{visible}
 use Rattle.model.specs.Check.{Accepted}
@@ -12,9 +11,10 @@ use Rattle.model.specs.Listing.{cells, ordinary}
 use Rattle.model.specs.List.{listCode}
 use Rattle.model.specs.Reply.{Reply, answered}
 use Rattle.model.specs.declared.Entry.{Entry}
+use Rattle.passing.specs.Pass.{rightBound}
+use Rattle.passing.specs.declared.Walk.{Walk}
 use Rattle.rights.specs.Rights.{entriesOfMask, Ready}
 use Rattle.walk.specs.Stands.{StandsBefore}
-use Rattle.walk.specs.declared.Walk.{Walk}
 
 -- for each place, the entries of its set
 abbrev pub cellsOf : List ℕ → List (List Entry)
@@ -40,10 +40,6 @@ unfoldable pub final : List ℕ → Walk → Reply
 final cat w =
     answered
     ((w .place + passedAhead cat w) ∷ (w .passed + passedAhead cat w) ∷ (w .count + length (writtenAhead cat w)) ∷ [])
-
--- the rights that a set can have: each column, and the row
-abbrev pub rightBound : ℕ
-rightBound = suc columnBound
 
 -- what holds of a walk and the words all along
 pub record Sound (cat : List ℕ) (w : Walk) (words : List ℕ) : Type 0 where

@@ -1,22 +1,18 @@
 -- The contracts of finding the set at a place, passing a set and going on to the next.
-use Prim.Native.Nat.{ℕ, _+_, _-_, _*_, _^_, _≤_, _<_}
+use Prim.Native.Nat.{ℕ, _≤_, _<_}
 use mathlib.Core.Path.{_≡_}
 use mathlib.Core.List.{List, [], _∷_}
-use lib.Count.{ones}
 use lib.ListN.{length, drop}
-use Rattle.columns.specs.Bound.{columnBound}
-use Rattle.columns.specs.Test.{ifLt}
-use Rattle.model.specs.Bounds.{tableBound}
 use Rattle.model.specs.Target.{rightsOf}
 use Rattle.model.specs.Listing.{entriesOf, ordinary}
 use Rattle.model.specs.Reply.{answered}
 use Rattle.model.specs.declared.Entry.{Entry}
+use Rattle.passing.specs.declared.Walk.{Walk}
+use Rattle.passing.specs.declared.Reached.{Reached}
+use Rattle.passing.specs.declared.Reached.the-variants.{At, Stop}
 use Rattle.rights.specs.Rights.{Ready}
 use Rattle.walk.specs.Stands.{Stands}
-use Rattle.walk.specs.Meaning.{cellsOf, ahead, final, rightBound, Sound, Good}
-use Rattle.walk.specs.declared.Walk.{Walk}
-use Rattle.walk.specs.declared.Reached.{Reached}
-use Rattle.walk.specs.declared.Reached.the-variants.{At, Stop}
+use Rattle.walk.specs.Meaning.{cellsOf, ahead, final, Sound, Good}
 
 -- a walk whose set stands at the place, and is still to be passed
 pub record Fresh (cat : List ℕ) (w : Walk) (words : List ℕ) : Type 0 where
@@ -42,34 +38,6 @@ pub record First (cat : List ℕ) (place budget room : ℕ) (w : Walk) (words : 
 -- the entries of the set of a walk
 abbrev pub cellOf : List ℕ → Walk → List Entry
 cellOf cat w = entriesOf (ordinary cat) (w .target) (w .left) (rightsOf cat (w .target))
-
--- the walk with its set passed, whose rights are the bits of a mask
-abbrev pub passedOn : Walk → ℕ → Walk
-passedOn w mask =
-    record {
-      target = w .target;
-      left = w .left;
-      members = w .members;
-      mode = w .mode;
-      place = w .place + 1;
-      budget = w .budget - 1;
-      room = w .room - ones mask;
-      passed = w .passed + 1;
-      count = w .count + ones mask;
-      pending = mask;
-    }
-
--- and if its entries do not fit, the walk stops
-unfoldable pub passedBy : Walk → ℕ → Reached
-passedBy w mask = ifLt (w .room) (ones mask) Stop (At (passedOn w mask))
-
--- the numbers of a walk are such that its set can be passed with these rights
-pub record Passable (w : Walk) (mask : ℕ) : Type 0 where
-  pub place : w .place < tableBound * 2 ^ columnBound
-  pub passed : w .passed ≤ w .place
-  pub counted : w .count ≤ rightBound * w .place
-  pub rights : ones mask ≤ rightBound
-  pub budget : 0 < w .budget
 
 -- a walk with the words used in some way
 abbrev pub withMode : Walk → ℕ → Walk

@@ -10,10 +10,10 @@ ghost use Rattle.model.specs.Catalogue.{sets as setsOf};
 ghost use Rattle.model.specs.Check.{Accepted};
 ghost use Rattle.walk.specs.Stands.{Found};
 ghost use Rattle.walk.specs.Walks.{First};
-use crate::Walk;
 use bits::power;
 use columns::ColumnSet;
 use columns::SetOrNone;
+use passing::Walk;
 
 // A target, and an index in the order of its sets.
 pub struct Spot {

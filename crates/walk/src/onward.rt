@@ -3,35 +3,12 @@ ghost use Prim.Native.Nat.{_<_};
 ghost use mathlib.Core.Path.{_≡_};
 ghost use Rattle.rights.specs.Rights.{Ready};
 ghost use Rattle.walk.specs.Meaning.{Good};
-ghost use Rattle.walk.specs.Walks.{Fresh, passedBy, Passable, Passes, Follows, Goes};
-use crate::Reached;
-use crate::Walk;
+ghost use Rattle.walk.specs.Walks.{Fresh, Passes, Follows, Goes};
 use columns::ColumnSet;
 use columns::SetOrNone;
-
-// The walk with its set passed if the entries fit: then the rights are pending.
-fn passed(w: Walk, mask: u32) -> Reached
-    requires { ⌜ Passable w mask ⌝ }
-    ensures { λ r. ⌜ r ≡ passedBy w mask ⌝ }
-{
-    let entries = u32::count_ones(mask);
-    let room = w.room;
-    if room < entries as usize {
-        return Reached::Stop;
-    }
-    Reached::At(Walk {
-        target: w.target,
-        left: w.left,
-        members: w.members,
-        mode: w.mode,
-        place: w.place + 1,
-        budget: w.budget - 1,
-        room: room - entries as usize,
-        passed: w.passed + 1,
-        count: w.count + entries,
-        pending: mask,
-    })
-}
+use passing::Reached;
+use passing::Walk;
+use passing::passed;
 
 // Passes the walk's set, whose rights the work words tell.
 fn pass(cat: &[u8], w: Walk, work: &mut [u32]) -> Reached

@@ -64,13 +64,13 @@ use Rattle.model.proofs.Entry as R
 use Rattle.model.proofs.Entry.Laws as R′
 use Rattle.model.proofs.ListAnswer as L
 use Rattle.model.proofs.ListAnswer.Laws as L′
-use Rattle.walk.specs.declared.Walk.{Walk}
+use Rattle.passing.specs.declared.Walk.{Walk}
 use Rattle.steps.specs.declared.Stepped.{Stepped}
 use Rattle.steps.specs.declared.Stepped.the-variants.{Put, Done}
 use Rattle.walk.specs.Meaning.{code as codeOf}
 use Rattle.steps.specs.Steps.{whole as wholeOf, values as valuesOf, Began, Went}
-use Rattle.walk.proofs.Walk as K
-use Rattle.walk.proofs.Walk.Laws as K′
+use Rattle.passing.proofs.Walk as K
+use Rattle.passing.proofs.Walk.Laws as K′
 use Rattle.steps.proofs.Stepped as S
 use Rattle.steps.proofs.Stepped.Laws as S′
 use Rattle.listing.proofs.Steps.{Facts, runWith, begun, runWith-length, room-left, run-next, one-more, nearer}

@@ -3,7 +3,7 @@ use mathlib.Core.Path.{subst}
 use denote.Ref.{now}
 use borrow.Author.Needs.{needs}
 use Rattle.walk.specs.Walks.{Passes}
-use Rattle.walk.specs.declared.Reached.{Reached}
+use Rattle.passing.specs.declared.Reached.{Reached}
 use Rattle.steps.proofs.Begins.{refusal-number, begin-refused, begin-few, begin-past, begin-spent, begin-end, begin-short, begin-walks}
 use Rattle.steps.proofs.begin.Statement.{statement}
 use Rattle.steps.proofs.begin.Tie as tie

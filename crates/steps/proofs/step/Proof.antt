@@ -5,7 +5,7 @@ use native.Mathlib.Omega.{arith}
 use denote.Ref.{now}
 use borrow.Author.Needs.{needs}
 use Rattle.walk.specs.Walks.{Goes}
-use Rattle.walk.specs.declared.Reached.{Reached}
+use Rattle.passing.specs.declared.Reached.{Reached}
 use Rattle.steps.proofs.Stepping.{Stepping, stepping-begun, stepping-on, step-done, puts, step-put}
 use Rattle.steps.proofs.step.Statement.{statement}
 use Rattle.steps.proofs.step.Tie as tie

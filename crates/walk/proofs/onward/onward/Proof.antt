@@ -2,8 +2,8 @@
 use mathlib.Core.Path.{subst}
 use denote.Ref.{now}
 use borrow.Author.Needs.{needs}
+use Rattle.passing.specs.declared.Reached.{Reached}
 use Rattle.walk.specs.Walks.{Follows}
-use Rattle.walk.specs.declared.Reached.{Reached}
 use Rattle.walk.proofs.Walks.{stopped-spent, stopped-end, goes}
 use Rattle.walk.proofs.onward.onward.Statement.{statement}
 use Rattle.walk.proofs.onward.onward.Tie as tie

@@ -1,11 +1,11 @@
--- `walk::passed` meets its contract.
+-- `passing::passed` meets its contract.
 use mathlib.Core.Path.{sym}
 use native.Mathlib.Omega.{arith}
 use Rattle.columns.proofs.Test.{ifLt-yes, ifLt-no}
-use Rattle.walk.specs.Walks.{passedBy}
+use Rattle.passing.specs.Pass.{passedBy}
 use borrow.Author.Needs.{needs}
-use Rattle.walk.proofs.onward.passed.Statement.{statement}
-use Rattle.walk.proofs.onward.passed.Tie as tie
+use Rattle.passing.proofs.passed.Statement.{statement}
+use Rattle.passing.proofs.passed.Tie as tie
 
 cast-if1 : tie.Need-cast-if1
 cast-if1 c = search needs
