@@ -1,4 +1,3 @@
-pub mod Numbers
 pub mod PackCalls
 pub mod ReadCalls
 pub mod ListCalls

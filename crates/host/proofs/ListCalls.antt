@@ -39,8 +39,8 @@ use Rattle.model.proofs.ListAnswer.Laws as L′
 use Rattle.listing.specs.Steps.{seen}
 use Rattle.lent.proofs.Lent.{ref}
 use Rattle.listing.proofs.list as list
-use Rattle.host.specs.Number.{listSeen}
-use Rattle.host.proofs.list_number as list-number
+use Rattle.numbers.specs.Number.{listSeen}
+use Rattle.numbers.proofs.list_number as list-number
 
 abbrev pub answerVal : ListAnswer → Val
 answerVal = enum.val L.the-type L′.the-laws

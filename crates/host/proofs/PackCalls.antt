@@ -39,9 +39,9 @@ use Rattle.model.proofs.PackAnswer as L
 use Rattle.model.proofs.PackAnswer.Laws as L′
 use Rattle.lent.proofs.Lent.{ref}
 use Rattle.packed.proofs.pack as pack
-use Rattle.host.specs.Number.{numberOf, valueOr}
-use Rattle.host.proofs.Numbers.{reply-fits}
-use Rattle.host.proofs.pack_number as pack-number
+use Rattle.numbers.specs.Number.{numberOf, valueOr}
+use Rattle.numbers.proofs.Numbers.{reply-fits}
+use Rattle.numbers.proofs.pack_number as pack-number
 
 -- ---- the bytes written are at most the output's
 written-within : (es : List Entry) (room : ℕ) → packCode es room ≡ 0 → distanceOf (length es) ≤ room

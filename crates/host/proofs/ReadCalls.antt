@@ -40,9 +40,9 @@ use Rattle.model.proofs.EntriesAnswer as L
 use Rattle.model.proofs.EntriesAnswer.Laws as L′
 use Rattle.lent.proofs.Lent.{ref}
 use Rattle.packed.proofs.read as read
-use Rattle.host.specs.Number.{numberOf, valueOr}
-use Rattle.host.proofs.Numbers.{reply-fits}
-use Rattle.host.proofs.read_number as read-number
+use Rattle.numbers.specs.Number.{numberOf, valueOr}
+use Rattle.numbers.proofs.Numbers.{reply-fits}
+use Rattle.numbers.proofs.read_number as read-number
 
 -- ---- the entries read are at most the run's records
 read-within : (b : List ℕ) (from room : ℕ) → length (readFrom b from room) ≤ room

@@ -1,56 +1,22 @@
 // The public calls for C and other languages: numbers and slices, a refusal as its number made negative.
-// Relies on every crate whose call it hands on. Called by host programs; include/cagberin.h declares it.
-ghost use Prim.Native.Nat.{ℕ, _<_, _^_};
+// Relies on every crate whose call it hands on, and on `numbers` for the number of an answer. Called by host programs; include/cagberin.h
+// declares it.
+ghost use Prim.Native.Nat.{ℕ};
 ghost use mathlib.Core.Path.{_≡_};
-ghost use lib.IntN.{negℤ, pos, negsuc};
+ghost use lib.IntN.{pos, negsuc};
 ghost use lib.ListN.{length};
-ghost use Rattle.model.specs.Refusal.{number};
-ghost use Rattle.model.specs.Reply.{wordsAfter, listReply, packReply, entriesReply};
+ghost use Rattle.model.specs.Reply.{wordsAfter};
 ghost use Rattle.model.specs.Check.{checkMeaning};
 ghost use Rattle.model.specs.Question.{questionCode, askMeaning, PairMeaning};
 ghost use Rattle.model.specs.List.{ListMeaning};
 ghost use Rattle.model.specs.Packed.{openMeaning, packMeaning, outputAfter, readMeaning, runRead};
 ghost use Rattle.listing.specs.Steps.{seen};
-ghost use Rattle.host.specs.Number.{numberOf, valueOr, statusOf, pairSeen, listSeen};
+ghost use Rattle.numbers.specs.Number.{numberOf, valueOr, statusOf, pairSeen, listSeen};
 use model::AskAnswer;
 use model::CheckAnswer;
-use model::EntriesAnswer;
 use model::Entry;
-use model::ListAnswer;
 use model::OpenAnswer;
-use model::PackAnswer;
 use model::PairAnswer;
-use model::Refusal;
-
-// A refusal's number made negative, at both widths.
-fn negative(r: Refusal) -> i32
-    ensures { λ n. ⌜ n ≡ negℤ (pos (number r)) ⌝ }
-{
-    match r {
-        Refusal::FileTooShort => -1,
-        Refusal::BadTrailer => -2,
-        Refusal::BadExtent => -3,
-        Refusal::TableTooLarge => -4,
-        Refusal::BadParentTable => -5,
-        Refusal::TooManyVisible => -6,
-        Refusal::BadParentRow => -7,
-        Refusal::UnknownTable => -8,
-        Refusal::UnknownColumn => -9,
-        Refusal::UnknownRight => -10,
-        Refusal::TooFewWords => -11,
-        Refusal::PastTheEnd => -12,
-        Refusal::RunTooShort => -13,
-        Refusal::NoList => -14,
-        Refusal::BadEntry => -15,
-        Refusal::OutputTooShort => -16,
-    }
-}
-
-fn wide_negative(r: Refusal) -> i64
-    ensures { λ n. ⌜ n ≡ negℤ (pos (number r)) ⌝ }
-{
-    negative(r) as i64
-}
 
 // 0 for a catalogue, with its tables and the sets over all targets; the two are written only then.
 #[no_mangle]
@@ -65,7 +31,7 @@ pub extern "C" fn cagberin_check(cat: &[u8], tables: &mut u32, sets: &mut u32) -
             *sets = s;
             0
         }
-        CheckAnswer::Refused(r) => negative(r),
+        CheckAnswer::Refused(r) => numbers::negative(r),
     }
 }
 
@@ -86,7 +52,7 @@ pub extern "C" fn cagberin_ask(
     match dependency::ask(cat, target, left, right, work) {
         AskAnswer::Holds => 1,
         AskAnswer::Breaks => 0,
-        AskAnswer::Refused(r) => negative(r),
+        AskAnswer::Refused(r) => numbers::negative(r),
     }
 }
 
@@ -119,7 +85,7 @@ pub extern "C" fn cagberin_pair(
             1
         }
         PairAnswer::Nothing => 0,
-        PairAnswer::Refused(r) => negative(r),
+        PairAnswer::Refused(r) => numbers::negative(r),
     }
 }
 
@@ -137,18 +103,7 @@ pub extern "C" fn cagberin_open(file: &[u8], front: &mut usize) -> i64
             *front = n;
             k as i64
         }
-        OpenAnswer::Refused(r) => wide_negative(r),
-    }
-}
-
-// A reading's answer as a number, the entries read.
-fn read_number(answer: EntriesAnswer) -> i64
-    requires { ⌜ valueOr 0 0 (entriesReply answer) < 2 ^ 63 ⌝ }
-    ensures { λ r. ⌜ r ≡ numberOf 0 (entriesReply answer) ⌝ }
-{
-    match answer {
-        EntriesAnswer::Read { count: n } => n as i64,
-        EntriesAnswer::Refused(r) => wide_negative(r),
+        OpenAnswer::Refused(r) => numbers::wide_negative(r),
     }
 }
 
@@ -160,26 +115,7 @@ pub extern "C" fn cagberin_read(file: &[u8], from: usize, run: &mut [Entry]) -> 
         × (now (run .exit) ≡ runRead (now (file .entry)) from (now (run .entry))) ⌝ }
 {
     let answer = packed::read(file, from, run);
-    read_number(answer)
-}
-
-// A listing's answer as a number, the entry count; the place reached and the sets passed are written only with an answer.
-fn list_number(answer: ListAnswer, reached: &mut u32, passed: &mut u32) -> i64
-    ensures { λ r. ⌜ (listSeen r (now (reached .exit)) (now (passed .exit)) ≡ listReply answer) × ((n : ℕ) → r ≡ negsuc n
-        → (now (reached .exit) ≡ now (reached .entry)) × (now (passed .exit) ≡ now (passed .entry))) ⌝ }
-{
-    match answer {
-        ListAnswer::Listed {
-            place: p,
-            passed: k,
-            count: n,
-        } => {
-            *reached = p;
-            *passed = k;
-            n as i64
-        }
-        ListAnswer::Refused(r) => wide_negative(r),
-    }
+    numbers::read_number(answer)
 }
 
 // Lists from a place on: the number of entries, which stand at the start of the run, with the place reached and the sets passed. Every work
@@ -200,18 +136,7 @@ pub extern "C" fn cagberin_list(
         → (now (reached .exit) ≡ now (reached .entry)) × (now (passed .exit) ≡ now (passed .entry))) ⌝ }
 {
     let answer = listing::list(cat, place, budget, run, work);
-    list_number(answer, reached, passed)
-}
-
-// Packing's answer as a number, the bytes written.
-fn pack_number(answer: PackAnswer) -> i64
-    requires { ⌜ valueOr 0 0 (packReply answer) < 2 ^ 63 ⌝ }
-    ensures { λ r. ⌜ r ≡ numberOf 0 (packReply answer) ⌝ }
-{
-    match answer {
-        PackAnswer::Packed { bytes: n } => n as i64,
-        PackAnswer::Refused(r) => wide_negative(r),
-    }
+    numbers::list_number(answer, reached, passed)
 }
 
 // Packs entries into an output: the number of bytes written from its start. A refusal writes nothing.
@@ -221,5 +146,5 @@ pub extern "C" fn cagberin_pack(entries: &[Entry], out: &mut [u8]) -> i64
         × (now (out .exit) ≡ outputAfter (now (entries .entry)) (now (out .entry))) ⌝ }
 {
     let answer = packed::pack(entries, out);
-    pack_number(answer)
+    numbers::pack_number(answer)
 }

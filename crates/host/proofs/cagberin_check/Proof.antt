@@ -3,8 +3,8 @@ use borrow.Author.Needs.{needs}
 use mathlib.Core.Path.{sym, ap, _∙_}
 use denote.Ref.{now}
 use Rattle.model.specs.Reply.{checkReply}
-use Rattle.host.specs.Number.{statusOf, valueOr}
-use Rattle.host.proofs.Numbers.{read-back32}
+use Rattle.numbers.specs.Number.{statusOf, valueOr}
+use Rattle.numbers.proofs.Numbers.{read-back32}
 use Rattle.host.proofs.cagberin_check.Statement.{statement}
 use Rattle.host.proofs.cagberin_check.Tie as tie
 

@@ -57,8 +57,8 @@ use Rattle.listing.proofs.list.Symbol as list-def
 use Rattle.listing.proofs.list.Met as list-thm
 use Rattle.host.proofs.ListCalls.{Hands, Numbered, to-one, Lister, to-list, list-asks, list-tells}
 use Rattle.host.proofs.ListCalls.{Number, to-number, number-asks, number-tells}
-use Rattle.host.proofs.list_number.Symbol as number-def
-use Rattle.host.proofs.list_number.Met as number-thm
+use Rattle.numbers.proofs.list_number.Symbol as number-def
+use Rattle.numbers.proofs.list_number.Met as number-thm
 use Rattle.host.proofs.cagberin_list.Key.{name as #key}
 use Rattle.host.proofs.cagberin_list as cagberin_list
 use Rattle.host.proofs.cagberin_list.Statement as stated
@@ -322,4 +322,4 @@ cagberin-list-spec 𝓤 H 𝓜 𝓖 𝓡 =
     (cited 𝓤 H (Lister 𝓤 H (𝓖 .A) (𝓜 .mem)
     (𝓡 .run)) 𝓜 𝓡 code.env list-def.name list-def.routine code.calls-listing·list (list-thm.met 𝓤 H 𝓜 𝓖 𝓡))
     (cited 𝓤 H (Number 𝓤 H (𝓖 .A) (𝓜 .mem)
-    (𝓡 .run)) 𝓜 𝓡 code.env number-def.name number-def.routine code.calls-host·list-number (number-thm.met 𝓤 H 𝓜 𝓖 𝓡)))
+    (𝓡 .run)) 𝓜 𝓡 code.env number-def.name number-def.routine code.calls-numbers·list-number (number-thm.met 𝓤 H 𝓜 𝓖 𝓡)))

@@ -3,8 +3,8 @@ use borrow.Author.Needs.{needs}
 use mathlib.Core.Path.{sym, ap, _∙_}
 use denote.Ref.{now}
 use Rattle.model.specs.Reply.{openReply}
-use Rattle.host.specs.Number.{numberOf, valueOr}
-use Rattle.host.proofs.Numbers.{read-unsigned, read-back64}
+use Rattle.numbers.specs.Number.{numberOf, valueOr}
+use Rattle.numbers.proofs.Numbers.{read-unsigned, read-back64}
 use Rattle.host.proofs.cagberin_open.Statement.{statement}
 use Rattle.host.proofs.cagberin_open.Tie as tie
 

@@ -53,10 +53,10 @@ use Rattle.model.proofs.PackAnswer.Laws as L′
 use Rattle.lent.proofs.Lent as lent
 use Rattle.packed.proofs.pack.Symbol as pack-def
 use Rattle.packed.proofs.pack.Met as pack-thm
-use Rattle.host.specs.Number.{numberOf}
+use Rattle.numbers.specs.Number.{numberOf}
 use Rattle.host.proofs.PackCalls.{answer-fits, Hands, Packer, Number, to-number, number-asks, number-tells, to-pack, pack-asks, pack-tells}
-use Rattle.host.proofs.pack_number.Symbol as number-def
-use Rattle.host.proofs.pack_number.Met as number-thm
+use Rattle.numbers.proofs.pack_number.Symbol as number-def
+use Rattle.numbers.proofs.pack_number.Met as number-thm
 use Rattle.host.proofs.cagberin_pack.Key.{name as #key}
 use Rattle.host.proofs.cagberin_pack as cagberin_pack
 use Rattle.host.proofs.cagberin_pack.Statement as stated
@@ -201,4 +201,4 @@ cagberin-pack-spec 𝓤 H 𝓜 𝓖 𝓡 =
     (cited 𝓤 H (Packer 𝓤 H (𝓖 .A) (𝓜 .mem)
     (𝓡 .run)) 𝓜 𝓡 code.env pack-def.name pack-def.routine code.calls-packed·pack (pack-thm.met 𝓤 H 𝓜 𝓖 𝓡))
     (cited 𝓤 H (Number 𝓤 H (𝓖 .A) (𝓜 .mem)
-    (𝓡 .run)) 𝓜 𝓡 code.env number-def.name number-def.routine code.calls-host·pack-number (number-thm.met 𝓤 H 𝓜 𝓖 𝓡)))
+    (𝓡 .run)) 𝓜 𝓡 code.env number-def.name number-def.routine code.calls-numbers·pack-number (number-thm.met 𝓤 H 𝓜 𝓖 𝓡)))

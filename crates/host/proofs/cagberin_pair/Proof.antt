@@ -7,8 +7,8 @@ use denote.Ref.{now}
 use Rattle.model.specs.declared.PairAnswer.{PairAnswer}
 use Rattle.model.specs.Reply.{pairReply}
 use Rattle.model.specs.Question.{PairMeaning}
-use Rattle.host.specs.Number.{pairSeen}
-use Rattle.host.proofs.Numbers.{read-back32, refused-seen}
+use Rattle.numbers.specs.Number.{pairSeen}
+use Rattle.numbers.proofs.Numbers.{read-back32, refused-seen}
 use Rattle.host.proofs.cagberin_pair.Statement.{statement}
 use Rattle.host.proofs.cagberin_pair.Tie as tie
 

@@ -54,11 +54,11 @@ use Rattle.model.proofs.EntriesAnswer.Laws as L′
 use Rattle.lent.proofs.Lent as lent
 use Rattle.packed.proofs.read.Symbol as read-def
 use Rattle.packed.proofs.read.Met as read-thm
-use Rattle.host.specs.Number.{numberOf}
+use Rattle.numbers.specs.Number.{numberOf}
 use Rattle.host.proofs.ReadCalls.{answer-fits, Hands, Reader, Number, to-number, number-asks, number-tells}
 use Rattle.host.proofs.ReadCalls.{to-read, read-asks, read-tells}
-use Rattle.host.proofs.read_number.Symbol as number-def
-use Rattle.host.proofs.read_number.Met as number-thm
+use Rattle.numbers.proofs.read_number.Symbol as number-def
+use Rattle.numbers.proofs.read_number.Met as number-thm
 use Rattle.host.proofs.cagberin_read.Key.{name as #key}
 use Rattle.host.proofs.cagberin_read as cagberin_read
 use Rattle.host.proofs.cagberin_read.Statement as stated
@@ -231,4 +231,4 @@ cagberin-read-spec 𝓤 H 𝓜 𝓖 𝓡 =
     (cited 𝓤 H (Reader 𝓤 H (𝓖 .A) (𝓜 .mem)
     (𝓡 .run)) 𝓜 𝓡 code.env read-def.name read-def.routine code.calls-packed·read (read-thm.met 𝓤 H 𝓜 𝓖 𝓡))
     (cited 𝓤 H (Number 𝓤 H (𝓖 .A) (𝓜 .mem)
-    (𝓡 .run)) 𝓜 𝓡 code.env number-def.name number-def.routine code.calls-host·read-number (number-thm.met 𝓤 H 𝓜 𝓖 𝓡)))
+    (𝓡 .run)) 𝓜 𝓡 code.env number-def.name number-def.routine code.calls-numbers·read-number (number-thm.met 𝓤 H 𝓜 𝓖 𝓡)))

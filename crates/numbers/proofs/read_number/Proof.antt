@@ -1,13 +1,13 @@
--- `host::read_number` meets its contract.
+-- `numbers::read_number` meets its contract.
 use borrow.Author.Needs.{needs}
 use mathlib.Core.Path.{sym, ap, _∙_, subst}
 use Prim.Native.Nat.{_<_, _^_}
 use Rattle.model.specs.declared.EntriesAnswer.{EntriesAnswer}
 use Rattle.model.specs.Reply.{entriesReply}
-use Rattle.host.specs.Number.{numberOf, valueOr}
-use Rattle.host.proofs.Numbers.{read-unsigned, read-back64}
-use Rattle.host.proofs.read_number.Statement.{statement}
-use Rattle.host.proofs.read_number.Tie as tie
+use Rattle.numbers.specs.Number.{numberOf, valueOr}
+use Rattle.numbers.proofs.Numbers.{read-unsigned, read-back64}
+use Rattle.numbers.proofs.read_number.Statement.{statement}
+use Rattle.numbers.proofs.read_number.Tie as tie
 
 enum-known-answer : tie.Need-enum-known-answer
 enum-known-answer c = search needs

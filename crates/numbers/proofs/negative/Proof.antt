@@ -1,8 +1,8 @@
--- `host::negative` meets its contract: each arm by the refusal that it is for.
+-- `numbers::negative` meets its contract: each arm by the refusal that it is for.
 use borrow.Author.Needs.{needs}
-use Rattle.host.proofs.Numbers.{same-refusal}
-use Rattle.host.proofs.negative.Statement.{statement}
-use Rattle.host.proofs.negative.Tie as tie
+use Rattle.numbers.proofs.Numbers.{same-refusal}
+use Rattle.numbers.proofs.negative.Statement.{statement}
+use Rattle.numbers.proofs.negative.Tie as tie
 
 enum-told : tie.Need-enum-told
 enum-told c = search needs

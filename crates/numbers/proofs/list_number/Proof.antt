@@ -1,13 +1,13 @@
--- `host::list_number` meets its contract.
+-- `numbers::list_number` meets its contract.
 use mathlib.Core.Path.{refl, sym, ap, _∙_}
 use lib.IntN.{ℤ, pos-ne-negsuc}
 use borrow.Author.Needs.{needs}
 use denote.Ref.{now}
 use Rattle.model.specs.Reply.{Reply, listReply}
-use Rattle.host.specs.Number.{listSeen}
-use Rattle.host.proofs.Numbers.{read-unsigned, read-back64, refused-seen}
-use Rattle.host.proofs.list_number.Statement.{statement}
-use Rattle.host.proofs.list_number.Tie as tie
+use Rattle.numbers.specs.Number.{listSeen}
+use Rattle.numbers.proofs.Numbers.{read-unsigned, read-back64, refused-seen}
+use Rattle.numbers.proofs.list_number.Statement.{statement}
+use Rattle.numbers.proofs.list_number.Tie as tie
 
 enum-known-answer : tie.Need-enum-known-answer
 enum-known-answer c = search needs

@@ -14,7 +14,7 @@ use Rattle.columns.proofs.Test.{ifEq-yes, ifEq-no}
 use Rattle.model.specs.Reply.{Reply, answered, refused, replyOf}
 use Rattle.model.specs.declared.Refusal.{Refusal}
 use Rattle.model.specs.declared.Refusal.the-variants.{FileTooShort, BadTrailer, BadExtent, TableTooLarge, BadParentTable, TooManyVisible, BadParentRow, UnknownTable, UnknownColumn, UnknownRight, TooFewWords, PastTheEnd, RunTooShort, NoList, BadEntry, OutputTooShort}
-use Rattle.host.specs.Number.{valueOr}
+use Rattle.numbers.specs.Number.{valueOr}
 
 -- the same refusal, the same number
 pub same-refusal : {r s : Refusal} → r ≡ s → negℤ (pos (number s)) ≡ negℤ (pos (number r))

@@ -1,11 +1,11 @@
--- `host::wide_negative` meets its contract.
+-- `numbers::wide_negative` meets its contract.
 use borrow.Author.Needs.{needs}
 use mathlib.Core.Path.{subst, sym}
 use mir.Syntax.{w64}
 use mir.Val.{SFits}
-use Rattle.host.proofs.Numbers.{fits64, read-back32, read-back64}
-use Rattle.host.proofs.wide_negative.Statement.{statement}
-use Rattle.host.proofs.wide_negative.Tie as tie
+use Rattle.numbers.proofs.Numbers.{fits64, read-back32, read-back64}
+use Rattle.numbers.proofs.wide_negative.Statement.{statement}
+use Rattle.numbers.proofs.wide_negative.Tie as tie
 
 negative-requires : tie.Need-negative-requires
 negative-requires c κs = search needs
