@@ -17,9 +17,9 @@ use Rattle.model.specs.Bounds.{rowBound}
 use Rattle.model.proofs.Truth.{eqb-is}
 use Rattle.table.proofs.Bits.{bit-none, bit-with-other, with-below}
 use Rattle.filled.proofs.Below.{below-more}
-use Rattle.leaders.specs.Keys.{keyAt, keysSize}
+use Rattle.leaders.specs.Keys.{keyAt}
 use Rattle.leaders.proofs.Keys.{same-test}
-use Rattle.classes.specs.Classes.{byteBound, Numbering, OnlyMember, SameClasses, MemberNumbered, Numbered}
+use Rattle.classes.specs.Classes.{byteBound, byteStride, bytesSize, numberAt, Numbering, OnlyMember, SameClasses, MemberNumbered, Numbered}
 
 -- a byte of member k is stored
 pub only-same : (k : ℕ) (bytes : List ℕ) → OnlyMember k bytes bytes
@@ -28,17 +28,17 @@ only-same k bytes = record { same-length = refl; others = λ j q d l. refl }
 pub only-then : {k : ℕ} {a b c : List ℕ} → OnlyMember k a b → OnlyMember k b c → OnlyMember k a c
 only-then h g = record { same-length = g .same-length ∙ h .same-length; others = λ j q d l. g .others j q d l ∙ h .others j q d l }
 
-pub only-set : (k q x : ℕ) (bytes : List ℕ) → q < rowBound → OnlyMember k bytes (set bytes (k * rowBound + q) x)
+pub only-set : (k q x : ℕ) (bytes : List ℕ) → q < rowBound → OnlyMember k bytes (set bytes (k * byteStride + q) x)
 only-set k q x bytes h = record {
-  same-length = length-set bytes (k * rowBound + q) x;
-  others = λ j i d l. getD-set-other bytes (k * rowBound + q) (j * rowBound + i) x 0 (λ e. d (omega arith));
+  same-length = length-set bytes (k * byteStride + q) x;
+  others = λ j i d l. getD-set-other bytes (k * byteStride + q) (j * byteStride + i) x 0 (λ e. d (omega arith));
 }
 
 -- a row more has the number x, which is right beside the earlier rows
 pub numbering-more : {keys : List ℕ} {k q count : ℕ} {bytes : List ℕ} (x r : ℕ) → k < columnBound → q < rowBound
     → keyAt keys k q ≤ q → x < r → count ≤ r → r ≤ byteBound
-    → ((i : ℕ) → i < q → (keyAt bytes k i ≡ x) ↔ (keyAt keys k i ≡ keyAt keys k q))
-    → Numbering keys k q count bytes → Numbering keys k (q + 1) r (set bytes (k * rowBound + q) x)
+    → ((i : ℕ) → i < q → (numberAt bytes k i ≡ x) ↔ (keyAt keys k i ≡ keyAt keys k q))
+    → Numbering keys k q count bytes → Numbering keys k (q + 1) r (set bytes (k * byteStride + q) x)
 numbering-more {keys} {k} {q} {count} {bytes} x r hk hq back fits grows few right h = record {
   long = simp length-set (h .long);
   few = few;
@@ -47,24 +47,24 @@ numbering-more {keys} {k} {q} {count} {bytes} x r hk hq back fits grows few righ
   same = λ i j l m. at-same i j l m (ℕ-discrete i q) (ℕ-discrete j q);
 }
   where
-    here : keyAt (set bytes (k * rowBound + q) x) k q ≡ x
-    here = getD-set-same bytes (k * rowBound + q) x 0 (omega (arith, h .long))
+    here : numberAt (set bytes (k * byteStride + q) x) k q ≡ x
+    here = getD-set-same bytes (k * byteStride + q) x 0 (omega (arith, h .long))
 
-    there : (i : ℕ) → (i ≡ q → ⊥) → keyAt (set bytes (k * rowBound + q) x) k i ≡ keyAt bytes k i
-    there i d = getD-set-other bytes (k * rowBound + q) (k * rowBound + i) x 0 (λ e. d (omega arith))
+    there : (i : ℕ) → (i ≡ q → ⊥) → numberAt (set bytes (k * byteStride + q) x) k i ≡ numberAt bytes k i
+    there i d = getD-set-other bytes (k * byteStride + q) (k * byteStride + i) x 0 (λ e. d (omega arith))
 
     at-same : (i j : ℕ) → i < q + 1 → j < q + 1 → Dec (i ≡ q) → Dec (j ≡ q)
-        → (keyAt (set bytes (k * rowBound + q) x) k i ≡ keyAt (set bytes (k * rowBound + q) x) k j) ↔ (keyAt keys k i ≡ keyAt keys k j)
+        → (numberAt (set bytes (k * byteStride + q) x) k i ≡ numberAt (set bytes (k * byteStride + q) x) k j) ↔ (keyAt keys k i ≡ keyAt keys k j)
     at-same i j l m (yes e) (yes f) =
-        (λ u. ap (keyAt keys k) (e ∙ sym f), λ u. ap (keyAt (set bytes (k * rowBound + q) x) k) (e ∙ sym f))
+        (λ u. ap (keyAt keys k) (e ∙ sym f), λ u. ap (numberAt (set bytes (k * byteStride + q) x) k) (e ∙ sym f))
     at-same i j l m (yes e) (no f) =
-        let now : keyAt (set bytes (k * rowBound + q) x) k i ≡ x = ap (keyAt (set bytes (k * rowBound + q) x) k) e ∙ here in
+        let now : numberAt (set bytes (k * byteStride + q) x) k i ≡ x = ap (numberAt (set bytes (k * byteStride + q) x) k) e ∙ here in
         let old = right j (omega arith) in (
           λ u. ap (keyAt keys k) e ∙ sym (old .0 (sym (there j f) ∙ sym u ∙ now)),
           λ u. now ∙ sym (old .1 (sym u ∙ ap (keyAt keys k) e)) ∙ sym (there j f),
         )
     at-same i j l m (no e) (yes f) =
-        let now : keyAt (set bytes (k * rowBound + q) x) k j ≡ x = ap (keyAt (set bytes (k * rowBound + q) x) k) f ∙ here in
+        let now : numberAt (set bytes (k * byteStride + q) x) k j ≡ x = ap (numberAt (set bytes (k * byteStride + q) x) k) f ∙ here in
         let old = right i (omega arith) in (
           λ u. old .0 (sym (there i e) ∙ u ∙ now) ∙ sym (ap (keyAt keys k) f),
           λ u. there i e ∙ old .1 (u ∙ ap (keyAt keys k) f) ∙ sym now,
@@ -76,9 +76,9 @@ numbering-more {keys} {k} {q} {count} {bytes} x r hk hq back fits grows few righ
 -- its number is that of the row that is its key
 pub numbered-as : {keys : List ℕ} {k q count : ℕ} {bytes : List ℕ} → k < columnBound → q < rowBound → (p : ℕ) → p < q
     → keyAt keys k q ≡ p → keyAt keys k p ≡ p → Numbering keys k q count bytes
-    → Numbering keys k (q + 1) count (set bytes (k * rowBound + q) (keyAt bytes k p))
+    → Numbering keys k (q + 1) count (set bytes (k * byteStride + q) (numberAt bytes k p))
 numbered-as {keys} {k} {q} {count} {bytes} hk hq p l e f h =
-    numbering-more (keyAt bytes k p) count hk hq (omega arith) (h .small p l) (omega arith) (h .few)
+    numbering-more (numberAt bytes k p) count hk hq (omega arith) (h .small p l) (omega arith) (h .few)
     (λ i m.
     let old = h .same i p m l in
     (λ u. old .0 u ∙ f ∙ sym e, λ u. old .1 (u ∙ e ∙ sym f)))
@@ -86,13 +86,13 @@ numbered-as {keys} {k} {q} {count} {bytes} hk hq p l e f h =
 
 -- or the next one, if it is its own key
 pub numbered-next : {keys : List ℕ} {k q count : ℕ} {bytes : List ℕ} → k < columnBound → q < rowBound → count < byteBound
-    → keyAt keys k q ≡ q → Numbering keys k q count bytes → Numbering keys k (q + 1) (count + 1) (set bytes (k * rowBound + q) count)
+    → keyAt keys k q ≡ q → Numbering keys k q count bytes → Numbering keys k (q + 1) (count + 1) (set bytes (k * byteStride + q) count)
 numbered-next {keys} {k} {q} {count} {bytes} hk hq room e h =
     numbering-more count (count + 1) hk hq (omega arith) (omega arith) (omega arith) (omega arith)
     (λ i m. (λ u. absurd (omega (arith, h .small i m)), λ u. absurd (omega (arith, h .back i m))))
     h
 
-pub numbering-none : (keys : List ℕ) (k : ℕ) (bytes : List ℕ) → length bytes ≡ keysSize → Numbering keys k 0 0 bytes
+pub numbering-none : (keys : List ℕ) (k : ℕ) (bytes : List ℕ) → length bytes ≡ bytesSize → Numbering keys k 0 0 bytes
 numbering-none keys k bytes l = record {
   long = l;
   few = omega arith;
@@ -105,9 +105,9 @@ pub numbering-all : {keys : List ℕ} {k q end count : ℕ} {bytes : List ℕ} �
 numbering-all {keys} {k} {q} {end} {count} {bytes} l h = record {
   classes = λ i j m o.
       let old = h .same i j (omega arith) (omega arith) in
-      let is = eqb-is (keyAt bytes k i) (keyAt bytes k j) in
+      let is = eqb-is (numberAt bytes k i) (numberAt bytes k j) in
       let was = eqb-is (keyAt keys k i) (keyAt keys k j) in
-      same-test (eqb (keyAt bytes k i) (keyAt bytes k j)) (eqb (keyAt keys k i) (keyAt keys k j))
+      same-test (eqb (numberAt bytes k i) (numberAt bytes k j)) (eqb (keyAt keys k i) (keyAt keys k j))
       (λ t. was .1 (old .0 (is .0 t))) (λ t. is .1 (old .1 (was .0 t)));
 }
 
@@ -116,12 +116,12 @@ classes-kept : {keys : List ℕ} {k j end : ℕ} {before after : List ℕ} → e
     → SameClasses keys j end before → SameClasses keys j end after
 classes-kept {keys} {k} {j} {end} {before} {after} short d only h = record {
   classes = λ p q l m.
-      let e : keyAt after j p ≡ keyAt before j p = only .others j p d (omega arith) in
-      let f : keyAt after j q ≡ keyAt before j q = only .others j q d (omega arith) in
-      ap (λ (x : ℕ). eqb x (keyAt after j q)) e ∙ ap (eqb (keyAt before j p)) f ∙ h .classes p q l m;
+      let e : numberAt after j p ≡ numberAt before j p = only .others j p d (omega arith) in
+      let f : numberAt after j q ≡ numberAt before j q = only .others j q d (omega arith) in
+      ap (λ (x : ℕ). eqb x (numberAt after j q)) e ∙ ap (eqb (numberAt before j p)) f ∙ h .classes p q l m;
 }
 
-pub numbered-none : (keys : List ℕ) (end : ℕ) (bytes : List ℕ) → length bytes ≡ keysSize → Numbered keys 0 end 0 bytes
+pub numbered-none : (keys : List ℕ) (end : ℕ) (bytes : List ℕ) → length bytes ≡ bytesSize → Numbered keys 0 end 0 bytes
 numbered-none keys end bytes l = record { long = l; members = omega arith; same = λ k e. absurd (omega (arith, bit-none k)) }
 
 pub numbered-more : {keys : List ℕ} {k end few : ℕ} {before after : List ℕ} (r : ℕ) → end ≤ rowBound → OnlyMember k before after

@@ -4,7 +4,7 @@ use mathlib.Core.Path.{_≡_, refl, sym, ap, ap₂, subst, _∙_}
 use mathlib.Core.Bool.{Bool, true, false, _&&_}
 use mathlib.Core.List.{List}
 use native.Mathlib.Decide.{ℕ-discrete, decLt}
-use native.Mathlib.Nat.{add-zero, zero-add, one-mul, zero-mul, add-comm, mod-lt}
+use native.Mathlib.Nat.{add-zero, zero-add, one-mul, zero-mul, add-comm, mod-lt, mul-le-mul-right}
 use native.Mathlib.Omega.{arith}
 use borrow.Author.Tests.{lt-ltb, le-ltb, eq-eqb, ne-eqb}
 use lib.Bits.{bitOr, or-zero-r, or-shifted-r}
@@ -23,7 +23,7 @@ use Rattle.table.specs.Broken.{agreeSetOf}
 use Rattle.table.proofs.Bits.{bit-with-same, bit-with-other, with-below}
 use Rattle.filled.proofs.Below.{below-more}
 use Rattle.leaders.specs.Keys.{keyAt, keyView}
-use Rattle.classes.specs.Classes.{Numbered}
+use Rattle.classes.specs.Classes.{byteStride, numberAt, Numbered}
 use Rattle.lines.specs.declared.part.Comparand.{Comparand}
 use Rattle.lines.specs.declared.part.Eight.{Eight}
 use Rattle.lines.specs.Lines.{lineMembers, Over, sameNumber, partAt, numberedAt, joinedAt, withMember, met, metAt}
@@ -76,7 +76,7 @@ or-first f r e = e ∙ sym (zero-add (pick (f 0) (2 ^ 0) 0))
 
 -- what row x is compared by on a member
 pub compares-is : (bytes : List ℕ) (few x v j p : ℕ) → v + j < columnBound → p ≡ 2 ^ j
-    → Compares bytes few x v j (record { at = (v + j) * rowBound; own = keyAt bytes (v + j) x; bit = bit few (v + j) * p })
+    → Compares bytes few x v j (record { at = (v + j) * byteStride; own = numberAt bytes (v + j) x; bit = bit few (v + j) * p })
 compares-is bytes few x v j p h e = record { place = refl; inside = h; own = refl; bit = ap (λ (p : ℕ). bit few (v + j) * p) e }
 
 pub bit-fits : (few k j p : ℕ) → j < 8 → p ≡ 2 ^ j → bit few k * p < 256
@@ -114,8 +114,8 @@ adds-member : {bytes : List ℕ} {few x v j : ℕ} {c : Comparand} → Compares 
     → added bytes c q ≡ pick (sameNumber bytes few x q (v + j)) (2 ^ j) 0
 adds-member {bytes} {few} {x} {v} {j} {c} by q =
     ap₂ (λ (m w : ℕ). pick (eqb m (word bytes (c .at + q))) w 0) (by .own) (by .bit)
-    ∙ ap (λ (o : ℕ). pick (eqb (keyAt bytes (v + j) x) (word bytes (o + q))) (bit few (v + j) * 2 ^ j) 0) (by .place)
-    ∙ both (bit few (v + j)) (mod-lt (few / 2 ^ (v + j)) two-pos) (eqb (keyAt bytes (v + j) x) (keyAt bytes (v + j) q)) (2 ^ j)
+    ∙ ap (λ (o : ℕ). pick (eqb (numberAt bytes (v + j) x) (word bytes (o + q))) (bit few (v + j) * 2 ^ j) 0) (by .place)
+    ∙ both (bit few (v + j)) (mod-lt (few / 2 ^ (v + j)) two-pos) (eqb (numberAt bytes (v + j) x) (numberAt bytes (v + j) q)) (2 ^ j)
   where
     two-pos : 0 < 2
     two-pos = omega arith
@@ -148,13 +148,13 @@ low-is bytes few x q l =
     let f = sameNumber bytes few x q in
     let past : setBelow 8 (λ j. f (8 + j)) ≡ 0 =
     none-pass 8 (λ j. f (8 + j))
-    (λ j m. ap (λ (t : Bool). t && eqb (keyAt bytes (8 + j) x) (keyAt bytes (8 + j) q)) (not-numbered few (8 + j) (bit-past few 8 (8 + j) l (omega arith)))) in
+    (λ j m. ap (λ (t : Bool). t && eqb (numberAt bytes (8 + j) x) (numberAt bytes (8 + j) q)) (not-numbered few (8 + j) (bit-past few 8 (8 + j) l (omega arith)))) in
     let split = setBelow-split 8 8 f in
     let first : setBelow 8 (λ j. f (0 + j)) ≡ setBelow 8 f = setBelow-same 8 (λ j. f (0 + j)) f (λ j m. ap f (zero-add j)) in
     omega arith
 
 pub parts-are : (bytes low high : List ℕ) (few x q : ℕ) → word low q ≡ partAt bytes few x 0 q → word high q ≡ partAt bytes few x 8 q
-    → joinedAt low high q ≡ numberedAt bytes few x q
+    → joinedAt 256 low high q ≡ numberedAt bytes few x q
 parts-are bytes low high few x q e g =
     let f = sameNumber bytes few x q in
     let split = setBelow-split 8 8 f in
@@ -200,17 +200,17 @@ ltb-next k m d = at (decLt k m)
     at (no g) = le-ltb k (m + 1) (omega arith) ∙ sym (le-ltb k m (omega arith))
 
 module _ (keys bytes : List ℕ) (few x q : ℕ) where
-  by-number : (m k : ℕ) → bit few k ≡ 1 → met keys bytes few m x q k ≡ eqb (keyAt bytes k x) (keyAt bytes k q)
+  by-number : (m k : ℕ) → bit few k ≡ 1 → met keys bytes few m x q k ≡ eqb (numberAt bytes k x) (numberAt bytes k q)
   by-number m k e =
-      ap (λ (t : Bool). pick t (eqb (keyAt bytes k x) (keyAt bytes k q)) (ltb k m && eqb (keyAt keys k x) (keyAt keys k q))) (eq-eqb (bit few k) 1 e)
+      ap (λ (t : Bool). pick t (eqb (numberAt bytes k x) (numberAt bytes k q)) (ltb k m && eqb (keyAt keys k x) (keyAt keys k q))) (eq-eqb (bit few k) 1 e)
 
   by-key : (m k : ℕ) → bit few k ≡ 0 → met keys bytes few m x q k ≡ (ltb k m && eqb (keyAt keys k x) (keyAt keys k q))
   by-key m k e =
-      ap (λ (t : Bool). pick t (eqb (keyAt bytes k x) (keyAt bytes k q)) (ltb k m && eqb (keyAt keys k x) (keyAt keys k q))) (not-numbered few k e)
+      ap (λ (t : Bool). pick t (eqb (numberAt bytes k x) (numberAt bytes k q)) (ltb k m && eqb (keyAt keys k x) (keyAt keys k q))) (not-numbered few k e)
 
   met-other : (m k : ℕ) → (k ≡ m → ⊥) → met keys bytes few (m + 1) x q k ≡ met keys bytes few m x q k
   met-other m k d =
-      ap (λ (t : Bool). pick (eqb (bit few k) 1) (eqb (keyAt bytes k x) (keyAt bytes k q)) (t && eqb (keyAt keys k x) (keyAt keys k q))) (ltb-next k m d)
+      ap (λ (t : Bool). pick (eqb (bit few k) 1) (eqb (numberAt bytes k x) (numberAt bytes k q)) (t && eqb (keyAt keys k x) (keyAt keys k q))) (ltb-next k m d)
 
   pub met-kept : (m : ℕ) → bit few m ≡ 1 → metAt keys bytes few m x q ≡ metAt keys bytes few (m + 1) x q
   met-kept m e = setBelow-same lineMembers (met keys bytes few m x q) (met keys bytes few (m + 1) x q) (λ k l. at k (ℕ-discrete k m))
@@ -232,7 +232,7 @@ module _ (keys bytes : List ℕ) (few x q : ℕ) where
   -- at first the numbered members alone
   pub met-none : numberedAt bytes few x q ≡ metAt keys bytes few 0 x q
   met-none = setBelow-same lineMembers (sameNumber bytes few x q) (met keys bytes few 0 x q)
-      (λ k l. at (eqb (bit few k) 1) (eqb (keyAt bytes k x) (keyAt bytes k q)) (eqb (keyAt keys k x) (keyAt keys k q)) (ltb k 0) (le-ltb k 0 (omega arith)))
+      (λ k l. at (eqb (bit few k) 1) (eqb (numberAt bytes k x) (numberAt bytes k q)) (eqb (keyAt keys k x) (keyAt keys k q)) (ltb k 0) (le-ltb k 0 (omega arith)))
     where
       at : (t e g z : Bool) → z ≡ false → (t && e) ≡ pick t e (z && g)
       at true e g z u = refl
@@ -267,13 +267,21 @@ none-left few n p is e k l z =
     let full : bit few k ≡ 1 = ap (λ (y : ℕ). bit y k) (e ∙ ap (λ (p : ℕ). p - 1) is) ∙ bit-full n k l in
     absurd (omega arith)
 
+-- two bytes, the second with a weight, fit a number of a line
+pub weighted-fits : (a b w : ℕ) → a < 256 → b < 256 → w ≤ 256 → a + w * b < 65536
+weighted-fits a b w la lb lw = omega (arith, mul-le-mul-right b lw)
+
 -- the same of whole lines
-pub line-low : (bytes : List ℕ) (few x : ℕ) {end : ℕ} {low line : List ℕ} → few < 256 → Over (partAt bytes few x 0) x end low
-    → Over (word low) x end line → Over (numberedAt bytes few x) x end line
-line-low bytes few x l part h = over-as (numberedAt bytes few x) (λ q k m. part .at q k m ∙ low-is bytes few x q l) h
+pub line-low : (bytes : List ℕ) (few x : ℕ) {end : ℕ} (low high : List ℕ) {line : List ℕ} → few < 256 → Over (partAt bytes few x 0) x end low
+    → Over (joinedAt 0 low high) x end line → Over (numberedAt bytes few x) x end line
+line-low bytes few x low high l part h =
+    over-as (numberedAt bytes few x) (λ q k m. alone (word low q) (word high q) ∙ part .at q k m ∙ low-is bytes few x q l) h
+  where
+    alone : (a b : ℕ) → a + 0 * b ≡ a
+    alone a b = omega arith
 
 pub line-parts : (bytes : List ℕ) (few x : ℕ) {end : ℕ} (low high : List ℕ) {line : List ℕ} → Over (partAt bytes few x 0) x end low
-    → Over (partAt bytes few x 8) x end high → Over (joinedAt low high) x end line → Over (numberedAt bytes few x) x end line
+    → Over (partAt bytes few x 8) x end high → Over (joinedAt 256 low high) x end line → Over (numberedAt bytes few x) x end line
 line-parts bytes few x low high part other h =
     over-as (numberedAt bytes few x) (λ q k m. parts-are bytes low high few x q (part .at q k m) (other .at q k m)) h
 

@@ -7,17 +7,16 @@ use lib.Dec.{eqb}
 use Rattle.columns.specs.Bound.{columnBound}
 use Rattle.columns.specs.Set.{bit}
 use Rattle.columns.specs.Test.{pick}
-use Rattle.model.specs.Bounds.{rowBound}
 use Rattle.table.specs.Words.{word}
-use Rattle.leaders.specs.Keys.{keyAt, keysSize}
+use Rattle.classes.specs.Classes.{byteStride, bytesSize, numberAt}
 use Rattle.lines.specs.declared.part.Comparand.{Comparand}
 use Rattle.lines.specs.declared.part.Eight.{Eight}
 
 -- on member v + j: its bit is that of j, if it is numbered
 pub record Compares (bytes : List ℕ) (few x v j : ℕ) (c : Comparand) : Type 0 where
-  pub place : c .at ≡ (v + j) * rowBound
+  pub place : c .at ≡ (v + j) * byteStride
   pub inside : v + j < columnBound
-  pub own : c .own ≡ keyAt bytes (v + j) x
+  pub own : c .own ≡ numberAt bytes (v + j) x
   pub bit : c .bit ≡ bit few (v + j) * 2 ^ j
 
 -- on the eight members from v on
@@ -33,14 +32,14 @@ pub record ComparesEight (bytes : List ℕ) (few x v : ℕ) (e : Eight) : Type 0
 
 -- row q has its numbers inside
 pub record InsideEight (e : Eight) (q : ℕ) : Type 0 where
-  pub i0 : e .m0 .at + q < keysSize
-  pub i1 : e .m1 .at + q < keysSize
-  pub i2 : e .m2 .at + q < keysSize
-  pub i3 : e .m3 .at + q < keysSize
-  pub i4 : e .m4 .at + q < keysSize
-  pub i5 : e .m5 .at + q < keysSize
-  pub i6 : e .m6 .at + q < keysSize
-  pub i7 : e .m7 .at + q < keysSize
+  pub i0 : e .m0 .at + q < bytesSize
+  pub i1 : e .m1 .at + q < bytesSize
+  pub i2 : e .m2 .at + q < bytesSize
+  pub i3 : e .m3 .at + q < bytesSize
+  pub i4 : e .m4 .at + q < bytesSize
+  pub i5 : e .m5 .at + q < bytesSize
+  pub i6 : e .m6 .at + q < bytesSize
+  pub i7 : e .m7 .at + q < bytesSize
 
 -- the bit that row q adds, and those of eight members
 abbrev pub added : List ℕ → Comparand → ℕ → ℕ

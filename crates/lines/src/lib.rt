@@ -14,6 +14,7 @@ ghost use Rattle.leaders.specs.Keys.{keyView};
 ghost use Rattle.classes.specs.Classes.{Numbered};
 ghost use Rattle.lines.specs.Lines.{Over};
 use bits::power;
+use classes::BYTES;
 use leaders::ROWS;
 use leaders::SIZE;
 use part::numbered_line;
@@ -22,7 +23,7 @@ use wide::add_wide;
 // The agree sets of row x with the rows after it, by all n members. The line and its two parts may hold anything before.
 pub fn line_of(
     keys: &[u16; SIZE],
-    bytes: &[u8; SIZE],
+    bytes: &[u8; BYTES],
     few: u32,
     n: u32,
     x: usize,

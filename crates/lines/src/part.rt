@@ -7,12 +7,13 @@ ghost use Rattle.columns.specs.Bound.{columnBound};
 ghost use Rattle.columns.specs.Test.{pick};
 ghost use Rattle.model.specs.Bounds.{rowBound};
 ghost use Rattle.table.specs.Words.{word};
-ghost use Rattle.leaders.specs.Keys.{keysSize};
+ghost use Rattle.classes.specs.Classes.{bytesSize};
 ghost use Rattle.lines.specs.Lines.{Over, joinedAt, partAt, numberedAt};
 ghost use Rattle.lines.specs.Compares.{Compares, ComparesEight, InsideEight, eightOf};
 use bits::power;
+use classes::BYTES;
+use classes::STRIDE;
 use leaders::ROWS;
-use leaders::SIZE;
 
 // What a row is compared by on one member: where the member's numbers stand, the row's own number, and the member's bit, or 0 where it counts for nothing.
 pub struct Comparand {
@@ -44,12 +45,12 @@ fn same(x: u8, y: u8, w: u8) -> u8
 }
 
 // What row x is compared by on member v + j. The bit is a product and not chosen by a test, which the compiler would carry into the loop over rows.
-fn comparand_of(bytes: &[u8; SIZE], few: u32, x: usize, v: u32, j: u32) -> Comparand
+fn comparand_of(bytes: &[u8; BYTES], few: u32, x: usize, v: u32, j: u32) -> Comparand
     requires { ⌜ (x < rowBound) × (v + j < columnBound) × (j < 8) ⌝ }
     ensures { λ r. ⌜ Compares (now (bytes .entry)) few x v j r ⌝ }
 {
     let k = v + j;
-    let at = k as usize * ROWS;
+    let at = k as usize * STRIDE;
     let own = bytes[at + x];
     let bit = ((few >> k) % 2 * power(j)) as u8;
     Comparand {
@@ -60,7 +61,7 @@ fn comparand_of(bytes: &[u8; SIZE], few: u32, x: usize, v: u32, j: u32) -> Compa
 }
 
 // What row x is compared by on the eight members from v on.
-fn eight_of(bytes: &[u8; SIZE], few: u32, x: usize, v: u32) -> Eight
+fn eight_of(bytes: &[u8; BYTES], few: u32, x: usize, v: u32) -> Eight
     requires { ⌜ (x < rowBound) × (v + 8 ≤ columnBound) ⌝ }
     ensures { λ r. ⌜ ComparesEight (now (bytes .entry)) few x v r ⌝ }
 {
@@ -85,8 +86,8 @@ fn eight_of(bytes: &[u8; SIZE], few: u32, x: usize, v: u32) -> Eight
 }
 
 // The bit of a member if row q has the same number there, else 0.
-fn agreeing(bytes: &[u8; SIZE], c: Comparand, q: usize) -> u8
-    requires { ⌜ c .at + q < keysSize ⌝ }
+fn agreeing(bytes: &[u8; BYTES], c: Comparand, q: usize) -> u8
+    requires { ⌜ c .at + q < bytesSize ⌝ }
     ensures { λ r. ⌜ r ≡ pick (eqb (c .own) (word (now (bytes .entry)) (c .at + q))) (c .bit) 0 ⌝ }
 {
     let at = c.at;
@@ -94,7 +95,7 @@ fn agreeing(bytes: &[u8; SIZE], c: Comparand, q: usize) -> u8
 }
 
 // The bits of the eight members on which row q has the same numbers.
-fn agreeing_eight(bytes: &[u8; SIZE], e: Eight, q: usize) -> u8
+fn agreeing_eight(bytes: &[u8; BYTES], e: Eight, q: usize) -> u8
     requires { ⌜ InsideEight e q ⌝ }
     ensures { λ r. ⌜ r ≡ eightOf (now (bytes .entry)) e q ⌝ }
 {
@@ -109,7 +110,7 @@ fn agreeing_eight(bytes: &[u8; SIZE], e: Eight, q: usize) -> u8
 }
 
 // The part of row x's line by the eight members from v on.
-fn compare_eight(bytes: &[u8; SIZE], few: u32, x: usize, v: u32, end: usize, part: &mut [u8; ROWS])
+fn compare_eight(bytes: &[u8; BYTES], few: u32, x: usize, v: u32, end: usize, part: &mut [u8; ROWS])
     requires { ⌜ (x < rowBound) × (v + 8 ≤ columnBound) × (end ≤ rowBound) × (length (now part) ≡ rowBound) ⌝ }
     ensures { λ _. ⌜ Over (partAt (now (bytes .entry)) few x v) x end (now (part .exit)) ⌝ }
 {
@@ -129,33 +130,28 @@ fn wide(x: u8) -> u16
     x as u16
 }
 
-// A line by its low part alone.
-fn widen(x: usize, end: usize, low: &[u8; ROWS], line: &mut [u16; ROWS])
-    requires { ⌜ (x < rowBound) × (end ≤ rowBound) × (length (now line) ≡ rowBound) ⌝ }
-    ensures { λ _. ⌜ Over (word (now (low .entry))) x end (now (line .exit)) ⌝ }
+// A line by its two parts, the high one with a weight, which is 0 where it counts for nothing.
+fn join_parts(
+    x: usize,
+    end: usize,
+    low: &[u8; ROWS],
+    high: &[u8; ROWS],
+    weight: u16,
+    line: &mut [u16; ROWS],
+)
+    requires { ⌜ (x < rowBound) × (end ≤ rowBound) × (length (now line) ≡ rowBound) × (weight ≤ 256) ⌝ }
+    ensures { λ _. ⌜ Over (joinedAt weight (now (low .entry)) (now (high .entry))) x end (now (line .exit)) ⌝ }
 {
     let mut q = x + 1;
     while q < end {
-        line[q] = wide(low[q]);
-        q += 1;
-    }
-}
-
-// A line by its two parts.
-fn join_parts(x: usize, end: usize, low: &[u8; ROWS], high: &[u8; ROWS], line: &mut [u16; ROWS])
-    requires { ⌜ (x < rowBound) × (end ≤ rowBound) × (length (now line) ≡ rowBound) ⌝ }
-    ensures { λ _. ⌜ Over (joinedAt (now (low .entry)) (now (high .entry))) x end (now (line .exit)) ⌝ }
-{
-    let mut q = x + 1;
-    while q < end {
-        line[q] = wide(low[q]) + 256 * wide(high[q]);
+        line[q] = wide(low[q]) + weight * wide(high[q]);
         q += 1;
     }
 }
 
 // The line of row x by the members that are numbered.
 pub fn numbered_line(
-    bytes: &[u8; SIZE],
+    bytes: &[u8; BYTES],
     few: u32,
     x: usize,
     end: usize,
@@ -170,9 +166,9 @@ pub fn numbered_line(
 {
     compare_eight(bytes, few, x, 0, end, low);
     if few < 256 {
-        widen(x, end, low, line);
+        join_parts(x, end, low, high, 0, line);
         return;
     }
     compare_eight(bytes, few, x, 8, end, high);
-    join_parts(x, end, low, high, line);
+    join_parts(x, end, low, high, 256, line);
 }

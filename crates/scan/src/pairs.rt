@@ -9,6 +9,7 @@ ghost use Rattle.model.specs.Bounds.{rowBound};
 ghost use Rattle.table.specs.Words.{word};
 ghost use Rattle.scan.specs.Seen.{NotedOne, Noted, Blank, Seen};
 use crate::SETS;
+use classes::BYTES;
 use classes::number;
 use leaders::ROWS;
 use leaders::SIZE;
@@ -45,7 +46,7 @@ pub fn occurring(keys: &[u16; SIZE], n: u32, end: usize, seen: &mut [u8; SETS])
     requires { ⌜ Blank (now seen) ⌝ }
     ensures { λ _. ⌜ Seen (now (keys .entry)) n end (now (seen .exit)) ⌝ }
 {
-    let mut bytes = [0u8; SIZE];
+    let mut bytes = [0u8; BYTES];
     let few = number(keys, n, end, &mut bytes);
     let mut low = [0u8; ROWS];
     let mut high = [0u8; ROWS];

@@ -6,6 +6,9 @@ use Rattle.classes.proofs.Classes.{only-set, numbered-as, numbered-next
 use Rattle.classes.proofs.number_row.Statement.{statement}
 use Rattle.classes.proofs.number_row.Tie as tie
 
+mul-from : tie.Need-mul-from
+mul-from c = search needs
+
 mul-at : tie.Need-mul-at
 mul-at c = search needs
 
@@ -85,6 +88,7 @@ pub number-row-spec : {M : Type 1} → statement M
 number-row-spec =
     tie.close
     (tie.spec
+    mul-from
     mul-at
     add-row-of
     mul-row-of

@@ -1,18 +1,18 @@
 -- `lines::part::join_parts` meets its contract. The invariant: the rows below q are written.
-use Prim.Native.Nat.{ℕ, _+_, _-_, _*_}
+use Prim.Native.Nat.{ℕ, _+_, _-_, _*_, _<_}
 use mathlib.Core.Path.{ap₂}
 use native.Mathlib.Omega.{arith}
 use Rattle.lines.specs.Lines.{Over, joinedAt}
-use Rattle.lines.proofs.Lines.{over-begun, over-more, over-done}
+use Rattle.lines.proofs.Lines.{weighted-fits, over-begun, over-more, over-done}
 use borrow.Author.Needs.{needs}
 use Rattle.lines.proofs.part.join_parts.Statement.{statement}
 use Rattle.lines.proofs.part.join_parts.Tie as tie
 
 abbrev Inv-loop : tie.InvT-loop
-Inv-loop x end low high line₀ q₀ line q = Over (joinedAt low high) x q line
+Inv-loop x end low high weight line₀ q₀ line q = Over (joinedAt weight low high) x q line
 
 abbrev μ-loop : tie.MeasureT-loop
-μ-loop x end low high line₀ q₀ line q = end - q
+μ-loop x end low high weight line₀ q₀ line q = end - q
 
 add-q : tie.Need-add-q Inv-loop μ-loop
 add-q c = search needs
@@ -32,14 +32,20 @@ element-copy-out-wide-2 c = search needs
 wide-requires-2 : tie.Need-wide-requires-2 Inv-loop μ-loop
 wide-requires-2 c κs = search needs
 
+-- the number fits a line
+small : (c : tie.After-wide2 Inv-loop μ-loop) → c .before .before .wide .result + c .before .before .before .before .before .before .args .weight * c .wide2 .result < 65536
+small c =
+    weighted-fits (c .before .before .wide .result) (c .wide2 .result) (c .before .before .before .before .before .before .args .weight)
+    (c .before .before .wide .ensures .1) (c .wide2 .ensures .1) (c .before .before .before .before .before .before .pre .3)
+
 mul-line : tie.Need-mul-line Inv-loop μ-loop
-mul-line c = search needs
+mul-line c = omega (arith, small c)
 
 add-line : tie.Need-add-line Inv-loop μ-loop
-add-line c = search needs
+add-line c = omega (arith, small c)
 
 mul-line-2 : tie.Need-mul-line-2 Inv-loop μ-loop
-mul-line-2 c = search needs
+mul-line-2 c = omega (arith, small c)
 
 element-write-line : tie.Need-element-write-line Inv-loop μ-loop
 element-write-line c = search needs
@@ -51,7 +57,7 @@ loop-less : tie.Need-loop-less Inv-loop μ-loop
 loop-less c = search needs
 
 loop-again : tie.Need-loop-again Inv-loop μ-loop
-loop-again c = over-more _ (omega arith) (ap₂ (λ (a b : ℕ). a + 256 * b) (c .before .before .wide .ensures .0) (c .wide2 .ensures .0)) (c .before .before .before .before .before .loop .inv)
+loop-again c = over-more _ (omega arith) (ap₂ (λ (a b : ℕ). a + c .before .before .before .before .before .before .args .weight * b) (c .before .before .wide .ensures .0) (c .wide2 .ensures .0)) (c .before .before .before .before .before .loop .inv)
 
 returns : tie.Need-returns Inv-loop μ-loop
 returns c = over-done (omega arith) (c .before .loop .inv)

@@ -4,7 +4,7 @@ use mathlib.Core.Path.{_≡_}
 use native.Mathlib.Omega.{arith}
 use lib.ListN.{length, length-replicate}
 use Rattle.model.specs.Bounds.{rowBound}
-use Rattle.leaders.specs.Keys.{keysSize}
+use Rattle.classes.specs.Classes.{bytesSize}
 use Rattle.scan.proofs.Seeing.{SeenBefore, seen-none, seen-more, seen-all, sets-small}
 use borrow.Author.Needs.{needs}
 use Rattle.scan.proofs.pairs.occurring.Statement.{statement}
@@ -18,7 +18,7 @@ abbrev μ-loop : tie.MeasureT-loop
 μ-loop keys n end seen₀ bytes few low₀ high₀ line₀ x₀ seen low high line x = end - x
 
 number-requires : tie.Need-number-requires Inv-loop μ-loop
-number-requires c κs = (c .before .pre .0 .0, c .before .pre .0 .1, length-replicate {A = ℕ} keysSize 0)
+number-requires c κs = (c .before .pre .0 .0, c .before .pre .0 .1, length-replicate {A = ℕ} bytesSize 0)
 
 loop-holds : tie.Need-loop-holds Inv-loop μ-loop
 loop-holds c = (
