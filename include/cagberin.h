@@ -25,7 +25,7 @@
  *
  * Stack. cagberin_list needs up to 300 KB (307,200 bytes) of stack, cagberin_ask and cagberin_pair up to 240 KB
  * (245,760 bytes), each other call up to 16 KB (16,384 bytes). Measured on a stack filled with a pattern beforehand, on
- * catalogues of 4 to 4,096 rows: 279,695 bytes for a listing, 217,399 for a pair, 213,279 for a question.
+ * catalogues of 4 to 4,096 rows: 280,672 bytes for a listing, 217,399 for a pair, 213,271 for a question.
  */
 #ifndef CAGBERIN_H
 #define CAGBERIN_H

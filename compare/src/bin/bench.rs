@@ -98,7 +98,7 @@ fn last_two() -> Vec<u8> {
 
 /// One table in which all codes of a column differ and stand in one chain of the library's grouping of rows: the worst that its hash can meet.
 fn one_chain(name: &'static str) -> Shape {
-    let chain = |code: u64| (code * 2_246_822_519) >> 20 & 0xFFF;
+    let chain = |code: u64| (code * 2_246_822_519) >> 19 & 0x1FFF;
     let codes: Vec<u32> = (0..).filter(|code| chain(*code) == 0).take(4_096).map(|code| code as u32).collect();
     let rows = codes.iter().map(|code| (NO_PARENT, vec![*code; 16])).collect();
     let draft = Draft { tables: vec![DraftTable { columns: 16, parent: NO_PARENT, rows }] };
