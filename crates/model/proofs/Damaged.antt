@@ -1,138 +1,179 @@
 -- The damaged catalogues are refused with their numbers, and have no other grounds than stated: by computation on the bytes.
-use Prim.Native.Nat.{ℕ, zero, suc, _+_, _*_, _<_}
-use mathlib.Core.Path.{_≡_, refl, ap, _∙_}
+use Prim.Native.Nat.{ℕ, zero, suc, _+_, _-_, _*_, _≤_, _<_}
+use mathlib.Core.Path.{_≡_, refl, sym, ap, _∙_}
 use mathlib.Core.List.{List, [], _∷_, _++_}
 use native.Mathlib.Nat.{zero-add}
 use native.Mathlib.Omega.{arith}
-use lib.ListN.{getD, replicate}
+use lib.ListN.{getD, length, replicate, length-append, length-replicate}
 use lib.Seq.{getD-append-add}
-use Rattle.columns.proofs.Test.{ifEq-yes}
-use Rattle.model.specs.Bounds.{noParent}
-use Rattle.model.specs.Bytes.{byteAt, u16At, bytes2}
-use Rattle.model.specs.Refusal.{number, firstOf}
+use Rattle.columns.specs.Test.{ifEq}
+use Rattle.columns.proofs.Test.{ifEq-yes, ifEq-no, ifLt-yes, ifLt-no, ifLe-yes}
+use Rattle.model.specs.Bounds.{rowBound, noParent}
+use Rattle.model.specs.Bytes.{byteAt, u16At, u32At, bytes2, bytes4}
+use Rattle.model.specs.Refusal.{number, orElse, firstOf}
 use Rattle.model.specs.declared.Refusal.the-variants.{BadParentRow}
-use Rattle.model.specs.Catalogue.{tables, tableAt, columns, rows, rowAt, parentRow}
-use Rattle.model.specs.Check.{Accepted, checkCode, tableCode, sizeCode, trailerCode, headCode, boundCode, parentCode, widthCode, extentCode, rowCode, leftCode}
-use Rattle.model.specs.Album.{headOf, trailerOf}
+use Rattle.model.specs.Catalogue.{tables, trailer, tableAt, columns, parent, rows, rowAt, parentRow, tableEnd, visible, visibleIn}
+use Rattle.model.specs.Check.{Accepted, checkCode, tableCode, startOf, sizeCode, trailerCode, headCode, boundCode, parentCode, widthCode, extentCode, rowCode, leftCode}
+use Rattle.model.specs.Album.{headOf, codesOf, trailerOf}
 use Rattle.model.specs.Damaged.{Damages, Only, groundsFrom, notZero, grounds, rowsOnly, manyRows, mostRows, AtTheBounds, DamageOrder}
 use Rattle.model.proofs.Grounds.{orElse-none, firstOf-none}
 use Rattle.model.proofs.Computes.{computes}
 
--- 4,096 rows are too many to compute with: each has two bytes 255, so its parent row is what it must be
+-- 4,096 rows are too many to compute with: what stands in the first 6 bytes and in the trailer is looked up past the rows, and each row has two
+-- bytes 255, so its parent row is what it must be
 full : (m n : ℕ) (rest : List ℕ) → n < m → getD (replicate m 255 ++ rest) n 0 ≡ 255
 full zero n rest l = absurd (omega arith)
 full (suc m) zero rest l = refl
 full (suc m) (suc n) rest l = full m n rest (omega arith)
 
-byte-is : (n k : ℕ) → k < 2 * n → byteAt (rowsOnly n) (6 + k) ≡ 255
-unfolding rowsOnly headOf bytes2
-byte-is n k l =
-    getD-append-add (headOf 0 noParent n) (replicate (2 * n) 255 ++ trailerOf (0 ∷ []) 1 (6 + 2 * n)) k 0
-    ∙ full (2 * n) k (trailerOf (0 ∷ []) 1 (6 + 2 * n)) l
+-- a number by its bytes
+u16-is : (b : List ℕ) (i w x : ℕ) → byteAt b i ≡ w → byteAt b (i + 1) ≡ x → u16At b i ≡ w + 256 * x
+unfolding u16At
+u16-is b i w x e f = omega arith
 
--- what stands in the first 6 bytes and in the trailer
-record FirstTable (n : ℕ) : Type 0 where
+u32-is : (b : List ℕ) (i w x y z : ℕ) → byteAt b i ≡ w → byteAt b (i + 1) ≡ x → byteAt b (i + 2) ≡ y → byteAt b (i + 3) ≡ z
+    → u32At b i ≡ w + 256 * x + 65536 * y + 16777216 * z
+unfolding u32At
+u32-is b i w x y z e f g h = omega arith
+
+-- n is a 2-byte number, and the trailer's place a 4-byte number
+module _ (n : ℕ) (short : u16At (bytes2 n) 0 ≡ n) (word : u32At (bytes4 (6 + 2 * n)) 0 ≡ 6 + 2 * n) where
+  abbrev trailerBytes : List ℕ
+  trailerBytes = trailerOf (0 ∷ []) 1 (6 + 2 * n)
+
+  abbrev rowsAndTrailer : List ℕ
+  rowsAndTrailer = replicate (2 * n) 255 ++ trailerBytes
+
+  row-byte : (k : ℕ) → k < 2 * n → byteAt (rowsOnly n) (6 + k) ≡ 255
+  unfolding rowsOnly headOf bytes2
+  row-byte k l = getD-append-add (headOf 0 noParent n) rowsAndTrailer k 0 ∙ full (2 * n) k trailerBytes l
+
+  trailer-byte : (k : ℕ) → byteAt (rowsOnly n) (6 + (2 * n + k)) ≡ byteAt trailerBytes k
+  unfolding rowsOnly headOf bytes2
+  trailer-byte k =
+      getD-append-add (headOf 0 noParent n) rowsAndTrailer (2 * n + k) 0
+      ∙ ap (λ (m : ℕ). getD rowsAndTrailer (m + k) 0) (sym (length-replicate (2 * n) 255))
+      ∙ getD-append-add (replicate (2 * n) 255) trailerBytes k 0
+
+  long : length (rowsOnly n) ≡ 16 + 2 * n
+  unfolding rowsOnly headOf trailerOf codesOf bytes2 bytes4
+  long = simp (length-append, length-replicate) (omega arith)
+
+  -- the numbers in the trailer, and then those in the first 6 bytes
   one : tables (rowsOnly n) ≡ 1
+  unfolding tables trailerOf codesOf bytes2 bytes4
+  one =
+      let b = rowsOnly n in
+      u16-is b (length b - 6) 1 0 (ap (byteAt b) (omega (arith, long)) ∙ trailer-byte 4) (ap (byteAt b) (omega (arith, long)) ∙ trailer-byte 5)
+
+  trailer-at : trailer (rowsOnly n) ≡ 6 + 2 * n
+  unfolding trailer u32At trailerOf codesOf bytes2 bytes4
+  trailer-at =
+      let b = rowsOnly n in
+      u32-is b (length b - 4) _ _ _ _ (ap (byteAt b) (omega (arith, long)) ∙ trailer-byte 6) (ap (byteAt b) (omega (arith, long)) ∙ trailer-byte 7)
+      (ap (byteAt b) (omega (arith, long)) ∙ trailer-byte 8) (ap (byteAt b) (omega (arith, long)) ∙ trailer-byte 9)
+      ∙ word
+
   at0 : tableAt (rowsOnly n) 0 ≡ 0
+  unfolding tableAt trailerOf codesOf bytes2 bytes4
+  at0 =
+      let b = rowsOnly n in
+      u32-is b (trailer b + 4 * 0) 0 0 0 0 (ap (byteAt b) (omega (arith, trailer-at)) ∙ trailer-byte 0) (ap (byteAt b) (omega (arith, trailer-at)) ∙ trailer-byte 1)
+      (ap (byteAt b) (omega (arith, trailer-at)) ∙ trailer-byte 2) (ap (byteAt b) (omega (arith, trailer-at)) ∙ trailer-byte 3)
+
+  byte-at : (i k : ℕ) → i ≡ k → byteAt (rowsOnly n) i ≡ byteAt (rowsOnly n) k
+  byte-at i k e = ap (byteAt (rowsOnly n)) e
+
   none : columns (rowsOnly n) 0 ≡ 0
+  unfolding columns rowsOnly headOf bytes2
+  none = let b = rowsOnly n in u16-is b (tableAt b 0) 0 0 (byte-at (tableAt b 0) 0 at0) (byte-at (tableAt b 0 + 1) 1 (omega (arith, at0)))
+
+  up : parent (rowsOnly n) 0 ≡ noParent
+  unfolding parent rowsOnly headOf bytes2
+  up = let b = rowsOnly n in u16-is b (tableAt b 0 + 2) 255 255 (byte-at (tableAt b 0 + 2) 2 (omega (arith, at0))) (byte-at (tableAt b 0 + 2 + 1) 3 (omega (arith, at0)))
+
   are : rows (rowsOnly n) 0 ≡ n
+  unfolding rows rowsOnly headOf bytes2 u16At
+  are = let b = rowsOnly n in u16-is b (tableAt b 0 + 4) _ _ (byte-at (tableAt b 0 + 4) 4 (omega (arith, at0))) (byte-at (tableAt b 0 + 4 + 1) 5 (omega (arith, at0))) ∙ short
 
-row-at : (n k : ℕ) → FirstTable n → rowAt (rowsOnly n) 0 k ≡ 6 + 2 * k
-unfolding rowAt
-row-at n k t = rw (t .at0, t .none) (omega arith)
+  row-at : (k : ℕ) → rowAt (rowsOnly n) 0 k ≡ 6 + 2 * k
+  unfolding rowAt
+  row-at k = rw (at0, none) (omega arith)
 
-parent-is : (n k : ℕ) → FirstTable n → k < n → parentRow (rowsOnly n) 0 k ≡ noParent
-unfolding parentRow u16At
-parent-is n k t l =
-    let b = rowsOnly n in
-    let low : byteAt b (rowAt b 0 k) ≡ 255 = ap (byteAt b) (row-at n k t) ∙ byte-is n (2 * k) (omega arith) in
-    let next : rowAt b 0 k + 1 ≡ 6 + (2 * k + 1) = omega (arith, row-at n k t) in
-    let high : byteAt b (rowAt b 0 k + 1) ≡ 255 = ap (byteAt b) next ∙ byte-is n (2 * k + 1) (omega arith) in
-    omega arith
+  end-at : tableEnd (rowsOnly n) 0 ≡ 6 + 2 * n
+  unfolding tableEnd
+  end-at = row-at (rows (rowsOnly n) 0) ∙ ap (λ (m : ℕ). 6 + 2 * m) are
 
-rows-are : (n : ℕ) → FirstTable n → firstOf (rows (rowsOnly n) 0) 0 (rowCode (rowsOnly n) 0) ≡ 0
-unfolding rowCode
-rows-are n t =
-    firstOf-none (rows (rowsOnly n) 0) 0 (rowCode (rowsOnly n) 0)
-    (λ k l. ifEq-yes _ refl ∙ ifEq-yes (number BadParentRow) (parent k (omega (arith, t .are))))
-  where
-    parent : (k : ℕ) → k < n → parentRow (rowsOnly n) 0 (0 + k) ≡ noParent
-    parent k l = ap (parentRow (rowsOnly n) 0) (zero-add k) ∙ parent-is n k t l
+  parent-is : (k : ℕ) → k < n → parentRow (rowsOnly n) 0 k ≡ noParent
+  unfolding parentRow
+  parent-is k l =
+      let b = rowsOnly n in
+      u16-is b (rowAt b 0 k) 255 255 (ap (byteAt b) (row-at k) ∙ row-byte (2 * k) (omega arith))
+      (ap (byteAt b) (omega (arith, row-at k)) ∙ row-byte (2 * k + 1) (omega arith))
 
-table-many : FirstTable 4097
-unfolding computes
-table-many = record { one = refl; at0 = refl; none = refl; are = refl }
+  -- no ground among the rows, and none besides but for the number of rows
+  rows-none : firstOf (rows (rowsOnly n) 0) 0 (rowCode (rowsOnly n) 0) ≡ 0
+  unfolding rowCode
+  rows-none =
+      firstOf-none (rows (rowsOnly n) 0) 0 (rowCode (rowsOnly n) 0)
+      (λ k l. ifEq-yes _ refl ∙ ifEq-yes (number BadParentRow) (ap (parentRow (rowsOnly n) 0) (zero-add k) ∙ parent-is k (omega (arith, are))))
 
-table-most : FirstTable 4096
-unfolding computes
-table-most = record { one = refl; at0 = refl; none = refl; are = refl }
+  size-none : sizeCode (rowsOnly n) ≡ 0
+  unfolding sizeCode
+  size-none = ifLt-no _ (omega (arith, long))
 
--- the grounds with one table, where n is what its rows give
-withRows : List ℕ → ℕ → List ℕ
-withRows b n =
-    sizeCode b ∷ trailerCode b ∷ headCode b 0 ∷ boundCode b 0 ∷ parentCode b 0 ∷ widthCode b 0 ∷ extentCode b 0 ∷ n ∷ leftCode b ∷ []
+  trailer-none : trailerCode (rowsOnly n) ≡ 0
+  unfolding trailerCode
+  trailer-none = ifEq-no _ (λ e. omega (arith, one)) ∙ ifLt-no _ (omega (arith, one)) ∙ ifEq-yes _ (omega (arith, one, trailer-at, long))
 
-one-table : (b : List ℕ) → tables b ≡ 1 → grounds b ≡ notZero (withRows b (firstOf (rows b 0) 0 (rowCode b 0)))
-unfolding grounds groundsFrom withRows
-one-table b e = ap (λ (n : ℕ). notZero (sizeCode b ∷ trailerCode b ∷ groundsFrom b n 0)) e
+  head-none : headCode (rowsOnly n) 0 ≡ 0
+  unfolding headCode startOf
+  head-none = ifEq-yes _ at0 ∙ ifLe-yes _ (omega (arith, at0, trailer-at))
 
-rest-is : notZero (withRows manyRows 0) ≡ 4 ∷ []
-unfolding computes withRows
-rest-is = refl
+  parent-none : parentCode (rowsOnly n) 0 ≡ 0
+  unfolding parentCode
+  parent-none = ifEq-yes _ refl ∙ ifEq-yes _ up
 
-code-is : checkCode manyRows ≡ 4
-unfolding computes
-code-is = refl
+  width-none : widthCode (rowsOnly n) 0 ≡ 0
+  unfolding widthCode visible visibleIn ifEq
+  width-none = ifLt-no _ (omega (arith, none))
+
+  extent-none : extentCode (rowsOnly n) 0 ≡ 0
+  unfolding extentCode
+  extent-none = ifLe-yes _ (omega (arith, end-at, trailer-at))
+
+  left-none : leftCode (rowsOnly n) ≡ 0
+  unfolding leftCode
+  left-none = ifEq-yes _ (ap (λ (m : ℕ). tableEnd (rowsOnly n) (m - 1)) one ∙ end-at ∙ sym trailer-at)
+
+  bound-none : n ≤ rowBound → boundCode (rowsOnly n) 0 ≡ 0
+  unfolding boundCode
+  bound-none h = ifLt-no _ (omega (arith, none)) ∙ ifLt-no _ (omega (arith, are))
+
+  bound-four : rowBound < n → boundCode (rowsOnly n) 0 ≡ 4
+  unfolding boundCode
+  bound-four h = ifLt-no _ (omega (arith, none)) ∙ ifLt-yes _ (omega (arith, are))
+
+  -- so the file is accepted, or has that one ground
+  accepted : n ≤ rowBound → Accepted (rowsOnly n)
+  unfolding checkCode tableCode firstOf orElse ifEq
+  accepted h =
+      rw (size-none, trailer-none, one, head-none, bound-none h, parent-none, width-none, extent-none, rows-none, left-none)
+
+  only-four : rowBound < n → Only (rowsOnly n) 4
+  unfolding checkCode tableCode firstOf orElse grounds groundsFrom notZero ifEq
+  only-four h = record {
+    code = rw (size-none, trailer-none, one, head-none, bound-four h);
+    alone = rw (size-none, trailer-none, one, head-none, bound-four h, parent-none, width-none, extent-none, rows-none, left-none);
+  }
 
 many-rows : Only manyRows 4
-unfolding manyRows
-many-rows =
-    record {
-      code = code-is;
-      alone = one-table manyRows (table-many .one) ∙ ap (λ (n : ℕ). notZero (withRows manyRows n)) (rows-are 4097 table-many)
-          ∙ rest-is;
-    }
-
--- 4,096 rows: no ground besides the rows, and none among them
-record OtherGrounds (b : List ℕ) : Type 0 where
-  size : sizeCode b ≡ 0
-  trailer : trailerCode b ≡ 0
-  head : headCode b 0 ≡ 0
-  bound : boundCode b 0 ≡ 0
-  parent : parentCode b 0 ≡ 0
-  width : widthCode b 0 ≡ 0
-  extent : extentCode b 0 ≡ 0
-  left : leftCode b ≡ 0
-
-others-none : OtherGrounds mostRows
-unfolding computes
-others-none =
-    record {
-      size = refl;
-      trailer = refl;
-      head = refl;
-      bound = refl;
-      parent = refl;
-      width = refl;
-      extent = refl;
-      left = refl;
-    }
-
-one-table-accepted : (b : List ℕ) → tables b ≡ 1 → OtherGrounds b → firstOf (rows b 0) 0 (rowCode b 0) ≡ 0 → Accepted b
-unfolding checkCode tableCode firstOf
-one-table-accepted b e o r =
-    orElse-none (o .size)
-    (orElse-none (o .trailer)
-    (orElse-none (ap (λ (n : ℕ). firstOf n 0 (tableCode b)) e ∙ orElse-none table refl) (o .left)))
-  where
-    table : tableCode b 0 ≡ 0
-    table =
-        orElse-none (o .head)
-        (orElse-none (o .bound) (orElse-none (o .parent) (orElse-none (o .width) (orElse-none (o .extent) r))))
+unfolding manyRows u16At u32At bytes2 bytes4
+many-rows = only-four 4097 refl refl (omega arith)
 
 most-rows : Accepted mostRows
-unfolding mostRows
-most-rows = one-table-accepted mostRows (table-most .one) others-none (rows-are 4096 table-most)
+unfolding mostRows u16At u32At bytes2 bytes4
+most-rows = accepted 4096 refl refl (omega arith)
 
 pub damages : Damages
 unfolding computes
