@@ -16,10 +16,11 @@
 //! shapes. That matters to TANE, whose work grows with the size of the keys; the table's does not. Rows stand
 //! in document order: parent rows ascend. `nested-16` is a line of 16 tables with one column and 4,096 rows each, whose
 //! last column is a function of the root's. In `one-chain` all codes of a column fall into one chain of the
-//! library's grouping of rows, the worst that can happen to it.
+//! library's grouping of rows, the worst that can happen to it in one table, and in `one-chain-nested` in each of 16
+//! nested tables, whose keys a listing lays for every target.
 //!
-//! Questions are asked of the last table: with a small left side and with one of eight columns, of a column and of
-//! the row. A call of budget 1 is timed beside one of budget 2, at three places of the last table.
+//! Questions are asked of the last table: with a small left side and with one of eight columns (where it has eight,
+//! the other seven for a column), of a column and of the row. A call of budget 1 is timed beside one of budget 2, at three places of the last table.
 
 use compare::random::{Draft, DraftTable, Random};
 use compare::simple::{self, Catalogue, Entry, MISSING, NO_PARENT, ROW, WORK_WORDS};
@@ -96,12 +97,27 @@ fn last_two() -> Vec<u8> {
     Draft { tables: vec![DraftTable { columns: 16, parent: NO_PARENT, rows }] }.file()
 }
 
-/// One table in which all codes of a column differ and stand in one chain of the library's grouping of rows: the worst that its hash can meet.
-fn one_chain(name: &'static str) -> Shape {
+/// Codes that differ and stand in one chain of the library's grouping of rows (`chain` of `crates/grouping`).
+fn codes_of_one_chain() -> Vec<u32> {
     let chain = |code: u64| (code * 2_246_822_519) >> 19 & 0x1FFF;
-    let codes: Vec<u32> = (0..).filter(|code| chain(*code) == 0).take(4_096).map(|code| code as u32).collect();
-    let rows = codes.iter().map(|code| (NO_PARENT, vec![*code; 16])).collect();
+    (0..).filter(|code| chain(*code) == 0).take(4_096).map(|code| code as u32).collect()
+}
+
+/// One table with such codes in every column: the worst that its hash can meet.
+fn one_chain(name: &'static str) -> Shape {
+    let rows = codes_of_one_chain().iter().map(|code| (NO_PARENT, vec![*code; 16])).collect();
     let draft = Draft { tables: vec![DraftTable { columns: 16, parent: NO_PARENT, rows }] };
+    Shape { name, file: draft.file(), holds: (1, 15), wide: (0xFF, 15), key: 0b0011_1111_1100_0000 }
+}
+
+/// The same in each of 16 nested tables of one column.
+fn one_chain_nested(name: &'static str) -> Shape {
+    let table = |i: usize| {
+        let above = |k: usize| if i == 0 { NO_PARENT } else { k };
+        let rows = codes_of_one_chain().into_iter().enumerate().map(|(k, code)| (above(k), vec![code])).collect();
+        DraftTable { columns: 1, parent: if i == 0 { NO_PARENT } else { i - 1 }, rows }
+    };
+    let draft = Draft { tables: (0..16).map(table).collect() };
     Shape { name, file: draft.file(), holds: (1, 15), wide: (0xFF, 15), key: 0b0011_1111_1100_0000 }
 }
 
@@ -149,7 +165,7 @@ fn root_code(draft: &Draft, table: usize, row: usize) -> u32 {
     }
 }
 
-const SHAPES: [&str; 10] = [
+const SHAPES: [&str; 11] = [
     "flat-4096x16",
     "flat-4096x16-few",
     "flat-4096x16-many",
@@ -160,6 +176,7 @@ const SHAPES: [&str; 10] = [
     "line-4-800",
     "flat-60x8",
     "one-chain",
+    "one-chain-nested",
 ];
 
 fn shape(name: &str) -> Option<Shape> {
@@ -171,6 +188,7 @@ fn shape(name: &str) -> Option<Shape> {
         "line-4-few" => Some(line("line-4-few", &LINE, &FEW)),
         "nested-16" => Some(line("nested-16", &NESTED, &MODERATE)),
         "one-chain" => Some(one_chain("one-chain")),
+        "one-chain-nested" => Some(one_chain_nested("one-chain-nested")),
         "line-4-800" => Some(line("line-4-800", &SHORT_LINE, &MODERATE)),
         "flat-480x16" => Some(flat("flat-480x16", 480, 16, &MODERATE)),
         "flat-60x8" => Some(flat("flat-60x8", 60, 8, &MODERATE)),

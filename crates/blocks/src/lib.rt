@@ -1,5 +1,6 @@
 // Not for callers: blocks of left sides, for calls that are lent less than one word for each left side. Behind the seeds the
-// words hold the next left sides in listing order, each with its listed rights, and a cursor to the one that is asked for next.
+// words hold the next left sides in listing order, each with its listed rights, and a cursor to the one that is asked for next. Promised are the rights
+// of each left side that stands there: other left sides, or a cursor that misses, would only cost time.
 // Relies on the definitions of `model` and `columns`, and on `planes` for the plane of each right. Called by `rights`.
 ghost use Prim.Native.Nat.{_+_, _/_, _^_, _≤_, _<_};
 ghost use mathlib.Core.Path.{_≡_};
@@ -93,7 +94,7 @@ fn answer_right(words: &mut [u32], n: u32, own: u32, count: u32, a: u32)
 }
 
 // Answers a block of left sides from the first on. It returns how many.
-pub fn answer_block(words: &mut [u32], n: u32, own: u32, first: u32) -> u32
+fn answer_block(words: &mut [u32], n: u32, own: u32, first: u32) -> u32
     requires { ⌜ (5 ≤ n) × (n ≤ columnBound) × (pairsAt n + 2 ≤ length (now words)) × (first < 2 ^ n) ⌝ }
     ensures { λ r. ⌜ Block n own first r (now (words .entry)) (now (words .exit)) ⌝ }
 {

@@ -1,6 +1,6 @@
 // Not for callers: the classes of rows that have the same key on a member, numbered in a byte each, for the members with at most 256 of them. Rows are then
 // compared by bytes, twice as many at a time as by keys.
-// Relies on the definitions of `leaders` for keys and on a law of `filled`. Called by `scan`.
+// Relies on the definitions of `leaders` for keys and on a law of `filled`. Called by `scan`; `lines` reads the numbers.
 ghost use Prim.Native.Nat.{_+_, _≤_, _<_};
 ghost use mathlib.Core.Path.{_≡_};
 ghost use lib.ListN.{length};
@@ -80,7 +80,7 @@ fn number_member(keys: &[u16; SIZE], k: u32, end: usize, bytes: &mut [u8; BYTES]
     power(k)
 }
 
-// Numbers the rows on each of the first n members that has few enough classes, and answers which these are.
+// Numbers the rows on each of the first n members that has few enough classes, and answers which these are. A member that it left out would only cost time.
 pub fn number(keys: &[u16; SIZE], n: u32, end: usize, bytes: &mut [u8; BYTES]) -> u32
     requires { ⌜ (n ≤ columnBound) × (end ≤ rowBound) × (length (now bytes) ≡ bytesSize) ⌝ }
     ensures { λ r. ⌜ Numbered (now (keys .entry)) n end r (now (bytes .exit)) ⌝ }

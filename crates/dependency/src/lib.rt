@@ -1,6 +1,7 @@
 // The technician's two questions about a dependency: does it hold, and if not, which two rows break it?
 // Relies on `question` for what stands against a question, on `grounds` for the refusals, on `keys` for the keys of the members that a question looks
-// at, and on `partition` and `search`, which answer it from keys alone. Called by hosts and programs.
+// at, on `partition` and `search`, which answer it from keys alone, on `layout` for rows and columns and on `lent` for the work words. Called by hosts and
+// programs.
 ghost use mathlib.Core.Path.{_≡_};
 ghost use lib.ListN.{length};
 ghost use Rattle.model.specs.Question.{questionCode, askMeaning, PairMeaning};

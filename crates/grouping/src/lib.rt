@@ -13,7 +13,7 @@ use leaders::ROWS;
 // How many chains there are.
 const CHAINS: usize = 8192;
 
-// The chain of a word.
+// The chain of a word. The shape `one-chain` of the benchmark has these numbers too.
 fn chain(w: u64) -> usize
     ensures { λ r. ⌜ (r ≡ chainOf w) × (r < chains) ⌝ }
 {
@@ -64,7 +64,7 @@ fn place(
     0
 }
 
-// The leaders of the rows before the end. It answers how many rows do not lead themselves.
+// The leaders of the rows before the end. It answers how many rows do not lead themselves; promised is that it is 0 exactly if every row does.
 pub fn group(words: &[u64; ROWS], end: usize, leaders: &mut [u16; ROWS]) -> usize
     requires { ⌜ end ≤ rowBound ⌝ }
     requires { ⌜ length (now leaders) ≡ rowBound ⌝ }

@@ -20,9 +20,8 @@ use Rattle.model.proofs.View.{isIn-is, without-within}
 use Rattle.table.specs.Broken.{rightAt, agreeSetOf, Pair, Table, rightsMask}
 use Rattle.table.proofs.Bits.{bit-power-same, bit-power-other}
 use Rattle.table.proofs.Table.{right-row, right-column}
-use Rattle.leaders.specs.Leaders.{leaderOf}
 use Rattle.leaders.specs.Keys.{keyAt, keyView, LaidFor, Keyed}
-use Rattle.leaders.proofs.Leaders.{firstFrom-same, same-leader}
+use Rattle.leaders.proofs.Leaders.{same-leader}
 
 -- to have equal numbers is an equivalence
 pub numbers-equivalence : (f : ℕ → ℕ → ℕ) (n end : ℕ)
@@ -89,12 +88,6 @@ module _ {v : View} {set n end : ℕ} {keys : List ℕ} (keyed : Keyed v set n e
       ∙ allBelow-same n (λ k. not (isIn k y) || v .agree k p q) (λ k. not (isIn k y) || eqb (keyAt keys k p) (keyAt keys k q))
       (λ k l. implied-same (isIn k y) (v .agree k p q) (eqb (keyAt keys k p) (keyAt keys k q))
       (λ t. keyed .same k p q l (within k l (isIn-is k y .0 t)) lp lq))
-
-  pub keyed-leader : (y q : ℕ) → Within (keyView keys n end) y set → q < end → leaderOf v y q ≡ leaderOf (keyView keys n end) y q
-  unfolding leaderOf
-  keyed-leader y q within l =
-      firstFrom-same (λ p. agreeOn v y p q) (λ p. agreeOn (keyView keys n end) y p q) q 0
-      (λ p h m. keyed-agreeOn y p q within (omega arith) l)
 
   pub keyed-right : (a p q : ℕ) → KeyedRight n set a → p < end → q < end → agreeRight v a p q ≡ agreeRight (keyView keys n end) a p q
   keyed-right a p q (inl e) lp lq = by-row (v .agree a p q) ∙ sym (by-row (eqb (keyAt keys a p) (keyAt keys a q)))

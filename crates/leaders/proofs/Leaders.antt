@@ -185,7 +185,7 @@ module _ (v : View) (eq : Equivalence v) where
       at m n r (inl j) k l t (no i) = i (omega arith)
       at m n r (inr j) k l t (no i) = earlier r (omega (arith, j .1)) (omega (arith, j .0)) t
 
-  -- the rights that x breaks are those that the agree sets of the rows with their leaders lack
+  -- the rights that x breaks are those that the agree sets of the rows with their leaders lack, rows that lead themselves left out
   pub broken-by-leaders : (x a : ℕ) → a ≤ v .members → v .members ≤ columnBound
       → (holds v x (rightAt (v .members) a) ≡ false)
       ↔ ((q : ℕ) × (q < v .rows) × (LeadsItself v x q → ⊥) × (bit (agreeSetOf v (leaderOf v x q) q) a ≡ 0))

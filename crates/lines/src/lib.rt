@@ -1,6 +1,6 @@
 // Not for callers: the line of one row, its agree sets with the rows after it as 2-byte numbers. Members whose classes are numbered in a byte are compared
 // eight at a time, which the compiler turns into vector compares of bytes (`part`); the others by their keys, one after the other (`wide`).
-// Relies on `classes` for the numbers and on the definitions of `leaders` for keys. Called by `scan`.
+// Relies on `classes` for the numbers, on the definitions of `leaders` and `table` for keys and agree sets, and on a law of `filled`. Called by `scan`.
 mod part;
 mod wide;
 

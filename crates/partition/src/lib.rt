@@ -1,6 +1,7 @@
 // Not for callers: the partition of the rows by a left side, from keys alone. The rows that agree on the left side have one leader, and the left side
 // gives a right exactly if every row agrees with its leader there: one pass over the rows for each member and each right, and none over pairs of rows.
-// Relies on `grouping` for the leaders by one number a row, and on the laws of `leaders` and `filled`. Called by `rights`, `search` and `dependency`.
+// Relies on `grouping` for the leaders by one number a row, on the laws of `leaders` and `filled`, and on `table` for sets of rights. Called by `rights`,
+// `search` and `dependency`.
 ghost use mathlib.Core.Path.{_≡_};
 ghost use mathlib.Core.Logic.{_↔_};
 ghost use mathlib.Core.Bool.{true};
@@ -85,7 +86,7 @@ fn join_if(
     join(keys, k, end, leaders)
 }
 
-// The leaders of all rows on the left side x. It answers how many rows do not lead themselves, and ends as soon as every row does.
+// The leaders of all rows on the left side x. It answers 0 exactly if every row leads itself, and ends as soon as every row does.
 pub fn leaders_of(
     keys: &[u16; SIZE],
     n: u32,

@@ -1,4 +1,4 @@
--- What planes say of a target ("Agreement", and demand 2): the seeds are the agree sets of its pairs of rows, and the
+-- What planes say of a view ("Agreement", and demand 2): the seeds are the agree sets of its pairs of rows, and the
 -- plane of a right says which left sides do not give it.
 use Prim.Native.Nat.{ℕ, _-_, _^_, _<_}
 use mathlib.Core.Path.{_≡_}
@@ -17,7 +17,7 @@ seedWords n = 2 ^ (n - 5)
 abbrev pub Seeds : View → List ℕ → Type 0
 Seeds v ws = (s : ℕ) → s < 2 ^ v .members → (planeBit ws s ≡ 1) ↔ Occurs v s
 
--- the words hold the seeds of a target of n columns
+-- the words hold the seeds of a view of n members
 pub record Sown (v : View) (n : ℕ) (ws : List ℕ) : Type 0 where
   pub members : v .members ≡ n
   pub equivalence : Equivalence v

@@ -1,7 +1,7 @@
 // Not for callers: the listed rights of one left side, for the listing call: by itself (`alone`), or by what is kept in the work words. Then `prepare` is called
 // where a call enters a target, and `rights` for each left side of it; what the two keep in the words between calls is theirs alone.
-// Relies on `keys` for the keys of a target, on `scan`, `table` and `blocks` for what the words hold, and on `partition` for one left side alone. Only the
-// laying of keys looks at the catalogue. Called by `walk` and `steps`.
+// Relies on `keys` for the keys of a target, on `scan`, `table` and `blocks` for what the words hold, on `partition` for one left side alone, and on
+// `layout` for how many rows and columns there are. No cell is looked at but where keys are laid. Called by `walk` and `steps`.
 ghost use mathlib.Core.Path.{_≡_};
 ghost use Prim.Native.Nat.{suc, _-_, _^_, _≤_, _<_};
 ghost use lib.ListN.{length};

@@ -1,6 +1,6 @@
 // Not for callers: the first two rows that break a dependency, from keys alone. A row strays if it does not agree on the right side with its leader on the
 // left; the first breaking pair is the lowest leader that a row strays from, and the lowest such row.
-// Relies on `partition` for the leaders of a left side. Called by `dependency`.
+// Relies on `partition` for the leaders of a left side and on the laws of `leaders`. Called by `dependency`.
 ghost use Prim.Native.Nat.{ℕ, _≤_, _<_};
 ghost use mathlib.Core.Path.{_≡_};
 ghost use mathlib.Core.Bool.{not};
@@ -52,7 +52,7 @@ fn mark_leader(
     marks[p] = 1;
 }
 
-// Marks each leader that a row strays from.
+// Marks each leader that a row strays from. A mark too many would only cost time.
 fn mark_leaders(
     keys: &[u16; SIZE],
     leaders: &[u16; ROWS],
