@@ -14,7 +14,7 @@ use Rattle.columns.proofs.Test.{ifEq-yes, ifEq-no}
 use Rattle.model.specs.Reply.{Reply, answered, refused, replyOf}
 use Rattle.model.specs.declared.Refusal.{Refusal}
 use Rattle.model.specs.declared.Refusal.the-variants.{FileTooShort, BadTrailer, BadExtent, TableTooLarge, BadParentTable, TooManyVisible, BadParentRow, UnknownTable, UnknownColumn, UnknownRight, TooFewWords, PastTheEnd, RunTooShort, NoList, BadEntry, OutputTooShort}
-use Rattle.numbers.specs.Number.{valueOr}
+use Rattle.numbers.specs.Number.{numberOf, valueOr}
 
 -- the same refusal, the same number
 pub same-refusal : {r s : Refusal} → r ≡ s → negℤ (pos (number s)) ≡ negℤ (pos (number r))
@@ -78,3 +78,16 @@ module _ (r : Refusal) where
   refused-seen seen f =
       let s = number-small r in
       subst (λ (k : ℕ). seen (negℤ (pos k)) ≡ refused k) (sym (s .1)) (f (s .0))
+
+-- an answer of any enum, once its variant is known, as the number that it goes back as: its value if that fits 63 bits, or the refusal
+module _ {A : Type 0} (reply : A → Reply) {x y : A} (e : x ≡ y) where
+  pub known-fits : valueOr 0 0 (reply x) < 2 ^ 63 → valueOr 0 0 (reply y) < 2 ^ 63
+  known-fits l = subst (λ (a : A). valueOr 0 0 (reply a) < 2 ^ 63) e l
+
+  pub known-value : (n : ℕ) → reply y ≡ answered (n ∷ []) → valueOr 0 0 (reply x) < 2 ^ 63 → toZ w64 n ≡ numberOf 0 (reply x)
+  known-value n f l =
+      let fits : n < 2 ^ 63 = subst (λ (r : Reply). valueOr 0 0 r < 2 ^ 63) f (known-fits l) in
+      read-unsigned n fits ∙ sym (ap (numberOf 0) (ap reply e ∙ f))
+
+  pub known-refusal : (r : Refusal) → reply y ≡ refused (number r) → {z : ℤ} → z ≡ negℤ (pos (number r)) → toZ w64 (ofZ w64 z) ≡ numberOf 0 (reply x)
+  known-refusal r f h = read-back64 r h ∙ sym (ap (numberOf 0) (ap reply e ∙ f))
