@@ -20,7 +20,8 @@
 //! nested tables, whose keys a listing lays for every target.
 //!
 //! Questions are asked of the last table: with a small left side and with one of eight columns (where it has eight,
-//! the other seven for a column), of a column and of the row. A call of budget 1 is timed beside one of budget 2, at three places of the last table.
+//! the other seven for a column), of a column and of the row. A call of budget 1 is timed beside one of budget 2, at
+//! three places of the last table.
 
 use compare::random::{Draft, DraftTable, Random};
 use compare::simple::{self, Catalogue, Entry, MISSING, NO_PARENT, ROW, WORK_WORDS};
