@@ -14,7 +14,7 @@ use Rattle.columns.specs.Set.{bit, setBelow}
 use Rattle.columns.specs.Test.{pick}
 use Rattle.model.specs.View.{View, minimal}
 use Rattle.table.specs.Words.{word}
-use Rattle.table.specs.Broken.{rightAt}
+use Rattle.model.specs.Rights.{rightAt}
 use Rattle.planes.specs.Bits.{Filled, Narrow}
 use Rattle.planes.specs.Plane.{Sown}
 use Rattle.planes.proofs.Plane.{seeds-filled-plane, narrow-is}

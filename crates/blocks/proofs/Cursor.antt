@@ -11,16 +11,16 @@ use lib.Seq.{getD-set-same, getD-set-other}
 use Rattle.model.specs.View.{View}
 use Rattle.model.proofs.Truth.{true-is, eqb-is}
 use Rattle.table.specs.Words.{word}
-use Rattle.table.specs.Broken.{rightsMask}
+use Rattle.table.specs.Broken.{minimalMask}
 use Rattle.planes.specs.Plane.{seedWords, Sown}
 use Rattle.planes.proofs.Seeds.{sown-kept}
-use Rattle.blocks.specs.Cache.{pairsAt, leftAt, Roomy, Cached, Ready, Block, AtCursor, RightsFrom}
+use Rattle.blocks.specs.Cache.{pairsAt, leftAt, Roomy, Cached, Stocked, Block, AtCursor, RightsFrom}
 
 -- words whose count is 0 are ready once they hold the seeds
 pub roomy-begun : (n : ℕ) (ws : List ℕ) → pairsAt n + 2 ≤ length ws → word ws (seedWords n + 1) ≡ 0 → Roomy n ws
 roomy-begun n ws h e = record { one = h; count = omega arith }
 
-pub ready-begun : (v : View) (n own : ℕ) (ws : List ℕ) → Sown v n ws → word ws (seedWords n + 1) ≡ 0 → Ready v n own ws
+pub ready-begun : (v : View) (n own : ℕ) (ws : List ℕ) → Sown v n ws → word ws (seedWords n + 1) ≡ 0 → Stocked v n own ws
 ready-begun v n own ws s e = record { sown = s; cached = λ j l. absurd (omega arith) }
 
 -- the cursor's pair is inside, and its left side is compared
@@ -55,7 +55,7 @@ cached-kept v own from m k before after e kept c j l =
     let s = kept (from + 2 * j) (omega arith) in
     record {
       left = omega (arith, p .left);
-      rights = kept (suc (from + 2 * j)) (omega arith) ∙ p .rights ∙ ap (rightsMask v own) (sym s);
+      rights = kept (suc (from + 2 * j)) (omega arith) ∙ p .rights ∙ ap (minimalMask v own) (sym s);
     }
 
 -- the cursor's pair answers, and the cursor moves
@@ -81,7 +81,7 @@ module _ (n own x m : ℕ) (ws : List ℕ) (h : 5 ≤ n) (is : m ≡ seedWords n
             let p = r .cached (word ws (seedWords n)) (at .some) in
             let i : m + 2 + 2 * word ws m + 1 ≡ suc (leftAt n (word ws (seedWords n))) = omega arith in
             same (m + 2 + 2 * word ws m + 1) (λ e. omega arith) ∙ ap (word ws) i ∙ p .rights
-            ∙ ap (rightsMask v own) (at .left);
+            ∙ ap (minimalMask v own) (at .left);
         ready = λ v r.
             record {
               sown = sown-kept v n ws moved h (λ i l. same i (λ e. omega arith)) (r .sown);
@@ -114,7 +114,7 @@ module _ (n own x m count : ℕ) (before mid : List ℕ) (h : 5 ≤ n) (is : m �
             let p = b .cached v (r .sown) 0 (b .room .some) in
             let i : m + 3 ≡ suc (leftAt n 0) = omega arith in
             rest (m + 3) (λ e. omega arith) (λ e. omega arith) ∙ ap (word mid) i ∙ p .rights
-            ∙ ap (rightsMask v own) (b .first-left);
+            ∙ ap (minimalMask v own) (b .first-left);
         ready = λ v r.
             record {
               sown = sown-kept v n before begun h

@@ -9,7 +9,8 @@ use lib.ListN.{length}
 use Rattle.columns.specs.Test.{pick}
 use Rattle.model.specs.View.{View, isIn, minimal}
 use Rattle.table.specs.Words.{word}
-use Rattle.table.specs.Broken.{rightAt, rightsMask}
+use Rattle.table.specs.Broken.{minimalMask}
+use Rattle.model.specs.Rights.{rightAt}
 use Rattle.planes.specs.Bits.{Narrow}
 use Rattle.planes.specs.Plane.{seedWords, Sown}
 
@@ -29,13 +30,13 @@ pub record Roomy (n : ℕ) (ws : List ℕ) : Type 0 where
 -- pairs of words from a place on: a left side, and behind it its listed rights
 pub record CachedPair (v : View) (own : ℕ) (ws : List ℕ) (at : ℕ) : Type 0 where
   pub left : word ws at < 2 ^ v .members
-  pub rights : word ws (suc at) ≡ rightsMask v own (word ws at)
+  pub rights : word ws (suc at) ≡ minimalMask v own (word ws at)
 
 abbrev pub Cached : View → ℕ → List ℕ → ℕ → ℕ → Type 0
 Cached v own ws from count = (j : ℕ) → j < count → CachedPair v own ws (from + 2 * j)
 
 -- the words hold the seeds, and the pairs behind them are right
-pub record Ready (v : View) (n own : ℕ) (ws : List ℕ) : Type 0 where
+pub record Stocked (v : View) (n own : ℕ) (ws : List ℕ) : Type 0 where
   pub sown : Sown v n ws
   pub cached : Cached v own ws (pairsAt n) (word ws (seedWords n + 1))
 
@@ -101,5 +102,5 @@ pub record AtCursor (n x : ℕ) (ws : List ℕ) : Type 0 where
 -- the rights of x, and words that stay ready
 pub record RightsFrom (n own x : ℕ) (before after : List ℕ) (r : ℕ) : Type 0 where
   pub roomy : Roomy n after
-  pub rights : (v : View) → Ready v n own before → r ≡ rightsMask v own x
-  pub ready : (v : View) → Ready v n own before → Ready v n own after
+  pub rights : (v : View) → Stocked v n own before → r ≡ minimalMask v own x
+  pub ready : (v : View) → Stocked v n own before → Stocked v n own after

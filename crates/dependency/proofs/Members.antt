@@ -19,7 +19,7 @@ use Rattle.model.specs.Catalogue.{rows, visible}
 use Rattle.model.specs.View.{View, Within, holds}
 use Rattle.model.specs.Target.{view}
 use Rattle.model.proofs.Check.{accepted-visible, accepted-rows}
-use Rattle.table.specs.Broken.{rightAt}
+use Rattle.model.specs.Rights.{rightAt}
 use Rattle.table.proofs.Bits.{bit-none, bit-power-same, bit-power-other, bit-with-same, bit-with-other}
 use Rattle.table.proofs.Table.{right-row, right-column, bit-zero-if}
 use Rattle.leaders.specs.Keys.{keyView, LaidFor, Keyed}

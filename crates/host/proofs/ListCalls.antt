@@ -36,7 +36,7 @@ use Rattle.model.specs.declared.ListAnswer.{ListAnswer}
 use Rattle.model.proofs.Entry as R
 use Rattle.model.proofs.ListAnswer as L
 use Rattle.model.proofs.ListAnswer.Laws as L′
-use Rattle.listing.specs.Steps.{seen}
+use Rattle.listing.specs.Seen.{seen}
 use Rattle.lent.proofs.Lent.{ref}
 use Rattle.listing.proofs.list as list
 use Rattle.numbers.specs.Number.{listSeen}

@@ -10,7 +10,7 @@ ghost use Rattle.model.specs.Check.{checkMeaning};
 ghost use Rattle.model.specs.Question.{questionCode, askMeaning, PairMeaning};
 ghost use Rattle.model.specs.List.{ListMeaning};
 ghost use Rattle.model.specs.Packed.{openMeaning, packMeaning, outputAfter, readMeaning, runRead};
-ghost use Rattle.listing.specs.Steps.{seen};
+ghost use Rattle.listing.specs.Seen.{seen};
 ghost use Rattle.numbers.specs.Number.{numberOf, valueOr, statusOf, pairSeen, listSeen};
 use model::AskAnswer;
 use model::CheckAnswer;

@@ -17,7 +17,8 @@ use Rattle.model.specs.Bounds.{rowBound, row}
 use Rattle.model.specs.View.{View, Equivalence, In, isIn, Within, AgreeOn, agreeOn, agreeRight, holds, minimal, allBelow}
 use Rattle.model.proofs.Truth.{is-true, eqb-is}
 use Rattle.model.proofs.View.{isIn-is, without-within}
-use Rattle.table.specs.Broken.{rightAt, agreeSetOf, Pair, Table, rightsMask}
+use Rattle.table.specs.Broken.{agreeSetOf, Pair, Table, minimalMask}
+use Rattle.model.specs.Rights.{rightAt}
 use Rattle.table.proofs.Bits.{bit-power-same, bit-power-other}
 use Rattle.table.proofs.Table.{right-row, right-column}
 use Rattle.leaders.specs.Keys.{keyAt, keyView, LaidFor, Keyed}
@@ -170,7 +171,7 @@ module _ {v : View} {n end : ℕ} {keys : List ℕ} (keyed : Keyed v (2 ^ n - 1)
       r : v .rows ≡ end
       r = keyed .rows
 
-  pub keyed-rights : (own x : ℕ) → rightsMask v own x ≡ rightsMask (keyView keys n end) own x
+  pub keyed-rights : (own x : ℕ) → minimalMask v own x ≡ minimalMask (keyView keys n end) own x
   keyed-rights own x =
       ap (λ (m : ℕ). setBelow (suc m) (λ a. isIn a own && minimal v x (rightAt m a))) (keyed .members)
       ∙ setBelow-same (suc n) (λ a. isIn a own && minimal v x (rightAt n a))

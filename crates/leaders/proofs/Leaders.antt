@@ -16,7 +16,8 @@ use Rattle.model.proofs.Truth.{decided, eqb-is}
 use Rattle.model.proofs.View.{agreeOn-is, agreeOn-reflexive, agreeOn-symmetric, agreeOn-transitive}
 use Rattle.model.proofs.View.{agreeRight-reflexive, agreeRight-symmetric, agreeRight-transitive}
 use Rattle.model.proofs.View.{not-holds-breaks, breaks-holds-false}
-use Rattle.table.specs.Broken.{rightAt, agreeSetOf}
+use Rattle.table.specs.Broken.{agreeSetOf}
+use Rattle.model.specs.Rights.{rightAt}
 use Rattle.table.proofs.Table.{right-agreed, right-lacked}
 use Rattle.leaders.specs.Leaders.{firstFrom, leaderOf, Leader, Strays, LeadsItself, AllLead}
 

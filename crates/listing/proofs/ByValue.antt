@@ -41,7 +41,8 @@ use Rattle.model.proofs.Calls.{le-or-lt}
 use Rattle.model.proofs.Entry as R
 use Rattle.model.proofs.ListAnswer as L
 use Rattle.model.proofs.ListAnswer.Laws as L′
-use Rattle.listing.specs.Steps.{Listed, seen}
+use Rattle.model.specs.List.{ListMeaning}
+use Rattle.listing.specs.Seen.{seen}
 use Rattle.listing.specs.Filled.{runBound, cap, FilledBy}
 use Rattle.listing.proofs.capped as capped
 use Rattle.listing.proofs.list as list
@@ -80,13 +81,13 @@ run-length room ys e =
     omega (arith, length-append ys (rest room), length-replicate (cap room) zeros, length-replicate (runBound - cap room) zeros, cap-within room)
 
 pub filled-by : (cat : List ℕ) (place budget room : ℕ) (words : List ℕ) (a : ListAnswer) (ys : List Entry) (ws : List ℕ)
-    → length ys ≡ length (fresh room) → Listed cat (seen place budget (fresh room) words (listReply a) ys ws)
+    → length ys ≡ length (fresh room) → ListMeaning cat (seen place budget (fresh room) words (listReply a) ys ws)
     → FilledBy cat place budget room words a (ys ++ rest room) ws
 filled-by cat place budget room words a ys ws e l =
     let n : length ys ≡ cap room = e ∙ length-replicate (cap room) zeros in
     record {
       listed =
-          subst (λ (zs : List Entry). Listed cat (seen place budget (fresh room) words (listReply a) zs ws))
+          subst (λ (zs : List Entry). ListMeaning cat (seen place budget (fresh room) words (listReply a) zs ws))
           (sym (take-at ys (rest room) (cap room) n)) l;
       others = drop-at ys (rest room) (cap room) n;
     }
@@ -202,7 +203,7 @@ module _ {M : Type 1} (𝓤 : URA M) (H : Heap 𝓤) (A : Atoms 𝓤) (mem : Mem
         move ! (2 ∷ 0 ∷ []) $ fjoin ! $ move ! (1 ∷ 0 ∷ []) $ join ! $ frame ! $ done !
 
     abbrev pub Says : ListAnswer → List Entry → List ℕ → Type 0
-    Says a ys ws = Listed (now cat) (seen place budget zs words (listReply a) ys ws)
+    Says a ys ws = ListMeaning (now cat) (seen place budget zs words (listReply a) ys ws)
 
     abbrev pub Back : Val → ListAnswer × (List Entry × List ℕ) → SProp 𝓤
     Back v x =

@@ -32,6 +32,8 @@ use denote.Triple.Clauses.{ensured, lasts}
 use denote.Triple.Walked.{says}
 use Rattle.passing.specs.declared.Walk.{Walk}
 use Rattle.steps.specs.declared.Stepped.{Stepped}
+use Rattle.model.specs.Check.{checkCode, Accepted}
+use Rattle.model.specs.Listing.{ordinary}
 use Rattle.walk.specs.Meaning.{Good}
 use Rattle.steps.specs.Steps.{Began, Went}
 use Rattle.passing.proofs.Walk as K
@@ -118,7 +120,7 @@ module _ {M : Type 1} (𝓤 : URA M) (H : Heap 𝓤) (A : Atoms 𝓤) (mem : Mem
           move ! (2 ∷ 0 ∷ []) $ fjoin ! $ move ! (1 ∷ 0 ∷ []) $ join ! $ frame ! $ done !
 
       abbrev Says : Stepped → List ℕ → Type 0
-      Says s zs = Began (now cat) place budget room ws s zs
+      Says s zs = Began (checkCode (now cat)) (ordinary (now cat)) place budget room ws s zs
 
       pub begin-tells : (v : Val) → ent 𝓤 (Begin .post to-begin v) (Tells Says v)
       begin-tells v =
@@ -167,16 +169,17 @@ module _ {M : Type 1} (𝓤 : URA M) (H : Heap 𝓤) (A : Atoms 𝓤) (mem : Mem
         tt,
       )
 
-      pub step-asks : Is K.the-row w (walkVals w) → Good (now cat) w ws → ent 𝓤 Asks (Step .pre to-step)
-      step-asks is good =
-          qed W (‵ (flft κ q) ∷ ‵ (flft (ν ∷ []) fullShare) ∷ ‵ catOwn ∷ ‵ workOwn ∷ []) ∵ says ! good $
+      pub step-asks : Is K.the-row w (walkVals w) → Accepted (now cat) → Good (ordinary (now cat)) w ws
+          → ent 𝓤 Asks (Step .pre to-step)
+      step-asks is ok good =
+          qed W (‵ (flft κ q) ∷ ‵ (flft (ν ∷ []) fullShare) ∷ ‵ catOwn ∷ ‵ workOwn ∷ []) ∵ says ! (ok, good) $
           nothing ! $ move ! (2 ∷ 0 ∷ []) $ join ! $ move ! (1 ∷ 0 ∷ []) $ join ! $ frame ! $
           nothing ! $ move ! (2 ∷ 0 ∷ []) $ fjoin ! $
           owned ! K.the-row (Is K.the-row) (struct.makes K.the-type K′.the-plain 𝓤 H A) w _ is $ fjoin ! $
           move ! (1 ∷ 0 ∷ []) $ fjoin ! $ done !
 
       abbrev Goes : Stepped → List ℕ → Type 0
-      Goes s zs = Went (now cat) w ws s zs
+      Goes s zs = Went (ordinary (now cat)) w ws s zs
 
       pub step-tells : (v : Val) → ent 𝓤 (Step .post to-step v) (Tells Goes v)
       step-tells v =

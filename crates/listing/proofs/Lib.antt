@@ -4,4 +4,3 @@ pub mod Steps
 pub mod Local
 pub mod ByValue
 pub mod WholeRun
-pub mod Meaning

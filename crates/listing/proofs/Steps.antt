@@ -7,47 +7,53 @@ use mathlib.Core.List.{List, [], _∷_, _++_, append-nil, append-assoc}
 use lib.ListN.{length, drop, set, length-append, length-drop}
 use Rattle.columns.proofs.Test.{ifEq-yes, ifEq-no}
 use Rattle.model.specs.Calls.{runAfter}
+use Rattle.model.proofs.Grounds.{orElse-left}
 use Rattle.model.specs.Reply.{replyOf, listReply}
 use Rattle.model.specs.declared.Entry.{Entry}
 use Rattle.model.specs.declared.ListAnswer.{ListAnswer}
 use Rattle.passing.specs.declared.Walk.{Walk}
 use Rattle.steps.specs.declared.Stepped.{Stepped}
 use Rattle.steps.specs.declared.Stepped.the-variants.{Put, Done}
-use Rattle.walk.specs.Meaning.{code as codeOf, Good}
-use Rattle.steps.specs.Steps.{due, toPut, replyTo, Kept, Begins, Went, whole, values}
-use Rattle.listing.specs.Steps.{Listed, seen}
+use Rattle.model.specs.Listing.{Listing, cells}
+use Rattle.model.specs.List.{codeAfter, CallMeaning}
+use Rattle.walk.specs.Meaning.{Good}
+use Rattle.steps.specs.Steps.{due, toPut, replyTo, WordsBegun, Begins, Went, whole, values}
+use Rattle.listing.specs.Seen.{seen}
 use Rattle.steps.proofs.Stepping.{kept-after}
 use Rattle.listing.proofs.Lists.{set-next}
 
-module _ (cat : List ℕ) (code : ℕ) (es : List Entry) (vs : List ℕ) (run : List Entry) (words : List ℕ) where
+-- where there is no ground against a call, none comes before its own
+pub none-before : {A : Type 0} (before : ℕ) (cs : List (List A)) (p g r w : ℕ) → codeAfter before cs p g r w ≡ 0 → before ≡ 0
+unfolding codeAfter
+none-before before cs p g r w e = orElse-left before _ e
+
+module _ (l : Listing) (code : ℕ) (es : List Entry) (vs : List ℕ) (run : List Entry) (words : List ℕ) where
   -- where the walk stands: what comes next, what is put, and the words
   pub record Facts (s : Stepped) (put : List Entry) (now : List ℕ) : Type 0 where
-    pub all : put ++ toPut cat s ≡ due code es
+    pub all : put ++ toPut l s ≡ due code es
     pub fits : length (due code es) ≤ length run
-    pub reply : replyTo cat s ≡ replyOf code vs
+    pub reply : replyTo l s ≡ replyOf code vs
     pub same : length now ≡ length words
-    pub kept : Kept cat code words s now
+    pub kept : WordsBegun l code words s now
 
   -- the run, with what is put before what was there
   abbrev pub runWith : List Entry → List Entry
   runWith put = put ++ drop (length put) run
 
-  pub begun : (s : Stepped) (now : List ℕ) → Begins cat code es vs (length run) words s now
+  pub begun : (s : Stepped) (now : List ℕ) → Begins l code es vs (length run) words s now
       → length now ≡ length words → Facts s [] now
-  begun s now b l =
+  begun s now b k =
       record {
-        all =
-            b .put;
-        fits = subst (λ (z : List Entry). length z ≤ length run) (b .put)
-            (b .fits);
+        all = b .put;
+        fits = subst (λ (z : List Entry). length z ≤ length run) (b .put) (b .fits);
         reply = b .reply;
-        same = l;
+        same = k;
         kept = b .kept;
       }
 
   pub put-within : (put : List Entry) (s : Stepped) (now : List ℕ) → Facts s put now
-      → length put + length (toPut cat s) ≤ length run
-  put-within put s now f = omega (arith, length-append put (toPut cat s), ap length (f .all), f .fits)
+      → length put + length (toPut l s) ≤ length run
+  put-within put s now f = omega (arith, length-append put (toPut l s), ap length (f .all), f .fits)
 
   pub runWith-length : (put : List Entry) (s : Stepped) (now : List ℕ) → Facts s put now
       → length (runWith put) ≡ length run
@@ -67,18 +73,21 @@ module _ (cat : List ℕ) (code : ℕ) (es : List Entry) (vs : List ℕ) (run : 
     pub nearer : length run - length (put ++ e ∷ []) < length run - length put
     nearer = omega (arith, room-left, length-append put (e ∷ []))
 
-    pub good : Good cat w now
+    pub no-ground : code ≡ 0
+    no-ground = f .kept .0
+
+    pub good : Good l w now
     good = f .kept .1
 
-    pub goes-on : (s : Stepped) (then : List ℕ) → Went cat w now s then → length then ≡ length now
+    pub goes-on : (s : Stepped) (then : List ℕ) → Went l w now s then → length then ≡ length now
         → Facts s (put ++ e ∷ []) then
-    goes-on s then g l =
+    goes-on s then g k =
         record {
-          all = append-assoc put (e ∷ []) (toPut cat s) ∙ ap (λ (z : List Entry). put ++ e ∷ z) (g .put) ∙ f .all;
+          all = append-assoc put (e ∷ []) (toPut l s) ∙ ap (λ (z : List Entry). put ++ e ∷ z) (g .put) ∙ f .all;
           fits = f .fits;
           reply = g .reply ∙ f .reply;
-          same = l ∙ f .same;
-          kept = kept-after cat code words now s then (f .kept .0) (f .same) (g .kept);
+          same = k ∙ f .same;
+          kept = kept-after l code words now s then (f .kept .0) (f .same) (g .kept);
         }
 
   due-after : (c : ℕ) → runWith (due c es) ≡ runAfter c es run
@@ -91,11 +100,10 @@ module _ (cat : List ℕ) (code : ℕ) (es : List Entry) (vs : List ℕ) (run : 
   written-all put now a f = ap runWith (sym (append-nil put) ∙ f .all) ∙ due-after code
 
 -- when nothing is left the call did what it must
-pub lists : (cat : List ℕ) (place budget : ℕ) (run : List Entry) (words : List ℕ) (put : List Entry) (now : List ℕ)
+pub lists : (before : ℕ) (l : Listing) (place budget : ℕ) (run : List Entry) (words : List ℕ) (put : List Entry) (now : List ℕ)
     (a : ListAnswer)
-    → Facts cat (codeOf cat place budget (length run) (length words)) (whole cat place budget (length run))
-    (values cat place budget (length run))
-    run words (Done a) put now
-    → Listed cat (seen place budget run words (listReply a) (put ++ drop (length put) run) now)
-lists cat place budget run words put now a f =
-    record { reply = f .reply; run = written-all cat _ _ _ run words put now a f; work = f .kept }
+    → Facts l (codeAfter before (cells l) place budget (length run) (length words)) (whole l place budget (length run))
+    (values l place budget (length run)) run words (Done a) put now
+    → CallMeaning before l (seen place budget run words (listReply a) (put ++ drop (length put) run) now)
+lists before l place budget run words put now a f =
+    record { reply = f .reply; run = written-all l _ _ _ run words put now a f; work = f .kept }

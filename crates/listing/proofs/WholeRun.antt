@@ -11,7 +11,8 @@ use Rattle.model.specs.Entry.{entry}
 use Rattle.model.specs.declared.Entry.{Entry}
 use Rattle.model.specs.declared.ListAnswer.{ListAnswer}
 use Rattle.model.proofs.Stops.{written-fits}
-use Rattle.walk.specs.Meaning.{code}
+use Rattle.model.specs.List.{listCode}
+use Rattle.model.specs.Listing.{ordinary}
 use Rattle.steps.specs.Steps.{whole}
 use Rattle.listing.specs.Filled.{runBound, cap, FilledBy}
 use Rattle.listing.proofs.ByValue.{fresh, rest, run-parts}
@@ -30,14 +31,14 @@ run-after-append {A} (suc k) es xs ys h =
 pub run-is-run-after-zeros : (cat : List ℕ) (place budget room : ℕ) (work : List ℕ) (answer : ListAnswer) (run : List Entry)
     (workThen : List ℕ)
     → FilledBy cat place budget room work answer run workThen
-    → run ≡ runAfter (code cat place budget (cap room) (length work)) (whole cat place budget (cap room)) (replicate runBound (entry 0 0 0))
+    → run ≡ runAfter (listCode cat place budget (cap room) (length work)) (whole (ordinary cat) place budget (cap room)) (replicate runBound (entry 0 0 0))
 run-is-run-after-zeros cat place budget room work answer run workThen f =
     sym (take-append-drop (cap room) run)
     ∙ ap₂ (λ (l m : List Entry). l ++ m) (f .listed .run ∙ ap lent (length-replicate (cap room) (entry 0 0 0))) (f .others)
-    ∙ run-after-append (code cat place budget (cap room) (length work)) (whole cat place budget (cap room)) (fresh room) (rest room)
+    ∙ run-after-append (listCode cat place budget (cap room) (length work)) (whole (ordinary cat) place budget (cap room)) (fresh room) (rest room)
     (rw (length-replicate (cap room) (entry 0 0 0)) (written-fits budget (cap room) _))
-    ∙ ap (runAfter (code cat place budget (cap room) (length work)) (whole cat place budget (cap room))) (sym (run-parts room))
+    ∙ ap (runAfter (listCode cat place budget (cap room) (length work)) (whole (ordinary cat) place budget (cap room))) (sym (run-parts room))
   where
     -- what a lent run of so many zero entries becomes
     lent : ℕ → List Entry
-    lent n = runAfter (code cat place budget n (length work)) (whole cat place budget n) (fresh room)
+    lent n = runAfter (listCode cat place budget n (length work)) (whole (ordinary cat) place budget n) (fresh room)

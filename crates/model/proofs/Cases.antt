@@ -27,7 +27,7 @@ use Rattle.model.specs.Album.{album, noRows, oneMissing, bothMissing, eq
 use Rattle.model.specs.Cases.{Cases}
 use Rattle.model.specs.declared.Entry.{Entry}
 use Rattle.model.proofs.Grounds.{orElse-none}
-use Rattle.model.proofs.Complete.{accepted-code}
+use Rattle.model.proofs.Complete.{after-none}
 use Rattle.model.proofs.Computes.{computes}
 use Rattle.model.proofs.Damaged.{damages, at-the-bounds, damage-order}
 use Rattle.model.proofs.RefusedCalls.{refused-questions, refused-listings, refused-lists}
@@ -167,7 +167,7 @@ last11 : (s : Seen Entry) → s .place ≡ 10 → workBound ≤ length (s .work)
     → (s .reply ≡ answered (10 ∷ 0 ∷ 0 ∷ [])) × (s .runThen ≡ s .run)
 last11 s p w o =
     passes-nothing (cells (ordinary album)) (listCode album (s .place) (s .budget) (length (s .run)) (length (s .work))) s
-    (accepted-code album album-accepted (s .place) (s .budget) (length (s .run)) (length (s .work))
+    (after-none (checkCode album) album-accepted (cells (ordinary album)) (s .place) (s .budget) (length (s .run)) (length (s .work))
     ∙ no-ground (cells (ordinary album)) (s .place) (s .budget) (length (s .run)) (length (s .work)) (p ∙ sym album-places) none w)
     p none o
   where

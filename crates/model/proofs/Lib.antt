@@ -1,6 +1,7 @@
 pub mod Truth
 pub mod Grounds
 pub mod View
+pub mod Listed
 pub mod Target
 pub mod Check
 pub mod Earlier

@@ -22,7 +22,7 @@ use Rattle.model.specs.Replies.{QuestionReplies, ListReplies, PackedRepl
 use Rattle.model.specs.declared.Entry.{Entry}
 use Rattle.model.proofs.Truth.{true-is}
 use Rattle.model.proofs.Grounds.{orElse-next}
-use Rattle.model.proofs.Complete.{accepted-code}
+use Rattle.model.proofs.Complete.{after-none}
 use Rattle.model.proofs.Computes.{computes}
 use Rattle.model.proofs.View.{breaks-by}
 
@@ -78,7 +78,7 @@ unfolding callCode wordsCode
 enough b s z w o =
     subst (λ (n : ℕ). Obeys (cells (ordinary b)) n s)
     (sym
-    (accepted-code b z (s .place) (s .budget) (length (s .run)) (length (s .work))
+    (after-none (checkCode b) z (cells (ordinary b)) (s .place) (s .budget) (length (s .run)) (length (s .work))
     ∙ orElse-next _ (ifLt-no (number TooFewWords) w)))
     o
 

@@ -1,86 +1,232 @@
--- The right sides of a target: which they are, and that they ascend in an accepted catalogue, since its columns stay below the number
--- of the row.
-use Prim.Native.Nat.{ℕ, zero, suc, _+_, _≤_, _<_}
-use mathlib.Core.Path.{_≡_, refl, sym, subst}
+-- The right sides that a mask stands for: which they are, that they ascend, and how many. And those of a table: its own columns and the row.
+use Prim.Native.Nat.{ℕ, zero, suc, _+_, _-_, _^_, _≤_, _<_, zero-le}
+use mathlib.Core.Path.{_≡_, refl, sym, ap, subst, _∙_}
 use mathlib.Core.Logic.{_⊎_, inl, inr, ⊎-elim, _↔_}
-use mathlib.Core.List.{List, [], _∷_, _++_, List·Memᴰ, List·Memᴰ·head, List·Memᴰ·tail, List·Memᴰ·not-nil, List·Memᴰ·cases-cons, List·Memᴰ·append-cases, List·Memᴰ·eq-of-singleton, Memᴰ·append-left, Memᴰ·append-right}
-use native.Mathlib.Decide.{ℕ-discrete}
+use mathlib.Core.List.{List, [], _∷_, List·Memᴰ, List·Memᴰ·head, List·Memᴰ·tail, List·Memᴰ·not-nil, List·Memᴰ·cases-cons}
+use mathlib.Core.Bool.{Bool, true, false}
+use native.Mathlib.Decide.{ℕ-discrete, decLt}
 use native.Mathlib.Omega.{arith}
+use lib.Dec.{T}
+use lib.ListN.{length}
+use lib.Pow.{pow-pos, pow-mono}
+use Rattle.columns.specs.Bound.{columnBound}
+use Rattle.columns.specs.Set.{bit}
+use Rattle.columns.specs.Test.{pick}
+use Rattle.columns.proofs.Test.{ifEq-yes, ifEq-no}
+use Rattle.columns.proofs.Bits.{bit-past, bit-full, bit-complement}
 use Rattle.model.specs.Bounds.{row}
-use Rattle.model.specs.Catalogue.{columns, visible, visibleIn, inherited}
+use Rattle.model.specs.Catalogue.{tables, columns, visible, visibleIn, inherited}
 use Rattle.model.specs.Check.{Accepted}
-use Rattle.model.specs.Target.{numbers, rightsOf}
-use Rattle.model.specs.Listing.{Ascending, RightsOrdered, ordinary}
-use Rattle.model.proofs.Check.{accepted-visible}
+use Rattle.model.specs.View.{isIn}
+use Rattle.model.specs.Rights.{rightAt, rightsFrom, rightsIn}
+use Rattle.model.specs.Target.{ownRights}
+use Rattle.model.specs.Listing.{Listing, widthOf, rightsOf, Bounded, ordinary}
+use Rattle.model.proofs.Truth.{true-is, false-is, eqb-is}
+use Rattle.model.proofs.Check.{accepted-tables, accepted-visible}
 
--- the visible columns are the inherited and the own ones
-pub own-visible : (b : List ℕ) (i : ℕ) → columns b i ≤ visible b i
-unfolding visible visibleIn
-own-visible b i = omega arith
+-- numbers in ascending order
+abbrev pub Ascending : List ℕ → Type 0
+Ascending [] = Unit {0}
+Ascending (a ∷ rest) = ((c : ℕ) → List·Memᴰ c rest → a < c) × Ascending rest
 
-pub inherited-own : (b : List ℕ) (i : ℕ) → inherited b i + columns b i ≡ visible b i
-unfolding inherited
-inherited-own b i = omega (arith, own-visible b i)
+-- the row, and the columns
+pub rightAt-row : (n : ℕ) → rightAt n n ≡ row
+unfolding rightAt
+rightAt-row n = ifEq-yes n refl
 
--- numbers in a row
-pub mem-numbers : (n i c : ℕ) → List·Memᴰ c (numbers n i) → (i ≤ c) × (c < i + n)
-unfolding numbers
-mem-numbers zero i c m = absurd (List·Memᴰ·not-nil m)
-mem-numbers (suc n) i c m =
-    ⊎-elim (λ (e : c ≡ i). (omega arith, omega arith))
-    (λ (k : List·Memᴰ c (numbers n (suc i))). let w = mem-numbers n (suc i) c k in (omega arith, omega arith))
-    (List·Memᴰ·cases-cons m)
+pub rightAt-column : (n k : ℕ) → k < n → rightAt n k ≡ k
+unfolding rightAt
+rightAt-column n k h = ifEq-no row (λ (e : k ≡ n). omega arith)
 
-pub numbers-mem : (n i c : ℕ) → i ≤ c → c < i + n → List·Memᴰ c (numbers n i)
-unfolding numbers
-numbers-mem zero i c l u = absurd (omega arith)
-numbers-mem (suc n) i c l u = at (λ h. numbers-mem n (suc i) c h (omega arith)) (ℕ-discrete c i)
+-- the number of the row is above those of the members, so rights grow with their bits
+rightAt-grows : (n j k : ℕ) → n ≤ row → j < k → k ≤ n → rightAt n j < rightAt n k
+rightAt-grows n j k few l u = at (ℕ-discrete k n)
   where
-    at : (suc i ≤ c → List·Memᴰ c (numbers n (suc i))) → Dec (c ≡ i) → List·Memᴰ c (i ∷ numbers n (suc i))
-    at ih (yes e) = List·Memᴰ·head e
-    at ih (no ne) = List·Memᴰ·tail (ih (omega arith))
+    low : rightAt n j ≡ j
+    low = rightAt-column n j (omega arith)
 
-ascending-numbers : (n i : ℕ) → Ascending (numbers n i)
-unfolding numbers
-ascending-numbers zero i = tt
-ascending-numbers (suc n) i = (λ c m. mem-numbers n (suc i) c m .0, ascending-numbers n (suc i))
+    at : Dec (k ≡ n) → rightAt n j < rightAt n k
+    at (yes e) =
+        let r : rightAt n k ≡ row = ap (rightAt n) e ∙ rightAt-row n in
+        omega (arith, low)
+    at (no e) =
+        let r : rightAt n k ≡ k = rightAt-column n k (omega arith) in
+        omega (arith, low)
 
-ascending-then : (xs : List ℕ) (a : ℕ) → Ascending xs → ((c : ℕ) → List·Memᴰ c xs → c < a) → Ascending (xs ++ (a ∷ []))
-ascending-then [] a h below = (λ c m. absurd (List·Memᴰ·not-nil m), tt)
-ascending-then (x ∷ xs) a h below = (
-  λ c m.
-      ⊎-elim (λ (k : List·Memᴰ c xs). h .0 c k)
-      (λ (k : List·Memᴰ c (a ∷ [])). subst (λ (d : ℕ). x < d) (sym (List·Memᴰ·eq-of-singleton k)) (below x (List·Memᴰ·head refl)))
-      (List·Memᴰ·append-cases xs m),
-  ascending-then xs a (h .1) (λ c m. below c (List·Memᴰ·tail m)),
-)
+-- the right sides of a mask over n members and the row
+module _ (n mask : ℕ) where
+  -- bit k of it is 1, and the right side a is the one that it stands for
+  abbrev pub StandsFor : ℕ → ℕ → Type 0
+  StandsFor k a = (bit mask k ≡ 1) × (a ≡ rightAt n k)
 
--- a right side is an own column, by its visible number, or the row
-pub right-is : (b : List ℕ) (i a : ℕ)
-    → List·Memᴰ a (rightsOf b i) ↔ (((inherited b i ≤ a) × (a < visible b i)) ⊎ (a ≡ row))
-unfolding rightsOf
-right-is b i a = (λ m. there (List·Memᴰ·append-cases own m), back)
-  where
-    own : List ℕ
-    own = numbers (columns b i) (inherited b i)
+  mem-from : (j k a : ℕ) → List·Memᴰ a (rightsFrom n mask j k) → (i : ℕ) × (k ≤ i) × (i < k + j) × StandsFor i a
+  unfolding rightsFrom
+  mem-from zero k a m = absurd (List·Memᴰ·not-nil m)
+  mem-from (suc j) k a m = at (λ r. later (mem-from j (suc k) a r)) (isIn k mask) refl m
+    where
+      later : (i : ℕ) × (suc k ≤ i) × (i < suc k + j) × StandsFor i a → (i : ℕ) × (k ≤ i) × (i < k + suc j) × StandsFor i a
+      later w =
+          let l = w .1 in
+          let u = w .2 in
+          (w .0, omega arith, omega arith, w .3)
 
-    there : List·Memᴰ a own ⊎ List·Memᴰ a (row ∷ []) → ((inherited b i ≤ a) × (a < visible b i)) ⊎ (a ≡ row)
-    there (inl m) =
-        let w = mem-numbers (columns b i) (inherited b i) a m in
-        inl (w .0, omega (arith, inherited-own b i))
-    there (inr m) = inr (List·Memᴰ·eq-of-singleton m)
+      at : (List·Memᴰ a (rightsFrom n mask j (suc k)) → (i : ℕ) × (k ≤ i) × (i < k + suc j) × StandsFor i a)
+          → (b : Bool) → isIn k mask ≡ b
+          → List·Memᴰ a (pick b (rightAt n k ∷ rightsFrom n mask j (suc k)) (rightsFrom n mask j (suc k)))
+          → (i : ℕ) × (k ≤ i) × (i < k + suc j) × StandsFor i a
+      at ih true p m =
+          ⊎-elim (λ (e : a ≡ rightAt n k). (k, omega arith, omega arith, (eqb-is (bit mask k) 1 .0 (true-is p), e)))
+          ih (List·Memᴰ·cases-cons m)
+      at ih false p m = ih m
 
-    back : ((inherited b i ≤ a) × (a < visible b i)) ⊎ (a ≡ row) → List·Memᴰ a (own ++ (row ∷ []))
-    back (inl w) =
-        let h = w .0 in
+  from-mem : (j k i : ℕ) → k ≤ i → i < k + j → bit mask i ≡ 1 → List·Memᴰ (rightAt n i) (rightsFrom n mask j k)
+  unfolding rightsFrom
+  from-mem zero k i l u e = absurd (omega arith)
+  from-mem (suc j) k i l u e =
+      at (λ h. from-mem j (suc k) i h (omega arith) e) (ℕ-discrete i k) (isIn k mask) refl
+    where
+      at : (suc k ≤ i → List·Memᴰ (rightAt n i) (rightsFrom n mask j (suc k))) → Dec (i ≡ k) → (b : Bool) → isIn k mask ≡ b
+          → List·Memᴰ (rightAt n i) (pick b (rightAt n k ∷ rightsFrom n mask j (suc k)) (rightsFrom n mask j (suc k)))
+      at ih (yes q) true p = List·Memᴰ·head (ap (rightAt n) q)
+      at ih (yes q) false p =
+          absurd (false-is p (eqb-is (bit mask k) 1 .1 (subst (λ (i : ℕ). bit mask i ≡ 1) q e)))
+      at ih (no q) true p = List·Memᴰ·tail (ih (omega arith))
+      at ih (no q) false p = ih (omega arith)
+
+  pub mem-rights : (a : ℕ) → List·Memᴰ a (rightsIn n mask) ↔ ((k : ℕ) × (k ≤ n) × StandsFor k a)
+  unfolding rightsIn
+  mem-rights a = (
+    λ m.
+        let w = mem-from (suc n) 0 a m in
+        let u = w .2 in
+        (w .0, omega arith, w .3),
+    λ w.
         let u = w .1 in
-        Memᴰ·append-left (row ∷ []) (numbers-mem (columns b i) (inherited b i) a h (omega (arith, inherited-own b i)))
-    back (inr e) = Memᴰ·append-right own (List·Memᴰ·head e)
+        subst (λ (c : ℕ). List·Memᴰ c (rightsFrom n mask (suc n) 0)) (sym (w .2 .1))
+        (from-mem (suc n) 0 (w .0) zero-le (omega arith) (w .2 .0)),
+  )
 
-pub ordinary-rights-ordered : (b : List ℕ) → Accepted b → RightsOrdered (ordinary b)
-unfolding rightsOf
-ordinary-rights-ordered b ok t l =
-    ascending-then (numbers (columns b t) (inherited b t)) row (ascending-numbers (columns b t) (inherited b t))
-    (λ c m.
-    let w = mem-numbers (columns b t) (inherited b t) c m in
-    omega (arith, inherited-own b t, accepted-visible b ok t l))
+  ascending-from : n ≤ row → (j k : ℕ) → k + j ≤ suc n → Ascending (rightsFrom n mask j k)
+  unfolding rightsFrom
+  ascending-from few zero k h = tt
+  ascending-from few (suc j) k h = at (ascending-from few j (suc k) (omega arith)) (isIn k mask)
+    where
+      at : Ascending (rightsFrom n mask j (suc k)) → (b : Bool)
+          → Ascending (pick b (rightAt n k ∷ rightsFrom n mask j (suc k)) (rightsFrom n mask j (suc k)))
+      at ih true = (
+        λ c m.
+            let w = mem-from j (suc k) c m in
+            let l = w .1 in
+            let u = w .2 in
+            subst (λ (d : ℕ). rightAt n k < d) (sym (w .3 .1)) (rightAt-grows n k (w .0) few l (omega arith)),
+        ih,
+      )
+      at ih false = ih
+
+  length-from : (j k : ℕ) → length (rightsFrom n mask j k) ≤ j
+  unfolding rightsFrom
+  length-from zero k = zero-le
+  length-from (suc j) k = at (length-from j (suc k)) (isIn k mask)
+    where
+      at : length (rightsFrom n mask j (suc k)) ≤ j → (b : Bool)
+          → length (pick b (rightAt n k ∷ rightsFrom n mask j (suc k)) (rightsFrom n mask j (suc k))) ≤ suc j
+      at ih true = omega arith
+      at ih false = omega arith
+
+-- those of a target ascend, and there are no more than members and the row
+module _ (l : Listing) (target : ℕ) where
+  pub rights-ascending : widthOf l target ≤ columnBound → Ascending (rightsOf l target)
+  unfolding rightsOf rightsIn
+  rights-ascending few =
+      ascending-from (widthOf l target) (l .rights target) (omega arith) (suc (widthOf l target)) 0 (omega arith)
+
+  pub rights-length : length (rightsOf l target) ≤ suc (widthOf l target)
+  unfolding rightsOf rightsIn
+  rights-length = length-from (widthOf l target) (l .rights target) (suc (widthOf l target)) 0
+
+-- the bits from i to n
+module _ (n i : ℕ) (h : i ≤ n) where
+  full-but : 2 ^ suc n - 2 ^ i ≡ 2 ^ suc n - 1 - (2 ^ i - 1)
+  full-but = omega (arith, pow-pos i)
+
+  some-less : 2 ^ i - 1 < 2 ^ suc n
+  some-less = let l : i ≤ suc n = omega arith in omega (arith, pow-pos i, pow-mono l)
+
+  within : (k : ℕ) → k ≤ n → bit (2 ^ suc n - 2 ^ i) k ≡ 1 - bit (2 ^ i - 1) k
+  within k l = ap (λ (z : ℕ). bit z k) full-but ∙ bit-complement (suc n) (2 ^ i - 1) k some-less (omega arith)
+
+  range-below : (k : ℕ) → k < i → bit (2 ^ suc n - 2 ^ i) k ≡ 0
+  range-below k l = omega (arith, within k (omega arith), bit-full i k l)
+
+  range-from : (k : ℕ) → i ≤ k → k ≤ n → bit (2 ^ suc n - 2 ^ i) k ≡ 1
+  range-from k l u =
+      let p : 2 ^ i - 1 < 2 ^ i = omega (arith, pow-pos i) in
+      omega (arith, within k u, bit-past (2 ^ i - 1) i k p l)
+
+  range-lt : 2 ^ suc n - 2 ^ i < 2 ^ suc n
+  range-lt = omega (arith, pow-pos i, some-less)
+
+  range-bit : (k : ℕ) → (bit (2 ^ suc n - 2 ^ i) k ≡ 1) ↔ ((i ≤ k) × (k ≤ n))
+  range-bit k = (λ e. at e (decLt k i) (decLt n k), λ f. range-from k (f .0) (f .1))
+    where
+      at : bit (2 ^ suc n - 2 ^ i) k ≡ 1 → Dec (k < i) → Dec (n < k) → (i ≤ k) × (k ≤ n)
+      at e (yes l) u = absurd (omega (arith, range-below k l))
+      at e (no l) (yes u) = absurd (omega (arith, bit-past (2 ^ suc n - 2 ^ i) (suc n) k range-lt u))
+      at e (no l) (no u) = (omega arith, omega arith)
+
+-- the visible columns of a table are the inherited and the own ones
+module _ (cat : List ℕ) (target : ℕ) where
+  pub own-visible : columns cat target ≤ visible cat target
+  unfolding visible visibleIn
+  own-visible = omega arith
+
+  pub inherited-own : inherited cat target + columns cat target ≡ visible cat target
+  unfolding inherited
+  inherited-own = omega (arith, own-visible)
+
+  pub inherited-visible : inherited cat target ≤ visible cat target
+  inherited-visible = omega (arith, inherited-own)
+
+  -- its rights are the own columns and the row
+  pub own-rights-lt : ownRights cat target < 2 ^ suc (visible cat target)
+  own-rights-lt = range-lt (visible cat target) (inherited cat target) inherited-visible
+
+  pub own-rights-bit : (k : ℕ) → (bit (ownRights cat target) k ≡ 1) ↔ ((inherited cat target ≤ k) × (k ≤ visible cat target))
+  own-rights-bit k = range-bit (visible cat target) (inherited cat target) inherited-visible k
+
+  -- a right side is an own column, by its visible number, or the row
+  pub right-is : (a : ℕ)
+      → List·Memᴰ a (rightsOf (ordinary cat) target) ↔ (((inherited cat target ≤ a) × (a < visible cat target)) ⊎ (a ≡ row))
+  unfolding rightsOf
+  right-is a = (
+    λ m. let w = mem-rights n (ownRights cat target) a .0 m in there (w .0) (w .1) (w .2) (ℕ-discrete (w .0) n),
+    λ w. mem-rights n (ownRights cat target) a .1 (back w),
+  )
+    where
+      n : ℕ
+      n = visible cat target
+
+      there : (k : ℕ) → k ≤ n → StandsFor n (ownRights cat target) k a → Dec (k ≡ n)
+          → ((inherited cat target ≤ a) × (a < n)) ⊎ (a ≡ row)
+      there k u w (yes e) = inr (w .1 ∙ ap (rightAt n) e ∙ rightAt-row n)
+      there k u w (no e) =
+          let o = own-rights-bit k .0 (w .0) .0 in
+          let l : k < n = omega arith in
+          let q : a ≡ k = w .1 ∙ rightAt-column n k l in
+          inl (omega arith, omega arith)
+
+      back : ((inherited cat target ≤ a) × (a < n)) ⊎ (a ≡ row) → (k : ℕ) × (k ≤ n) × StandsFor n (ownRights cat target) k a
+      back (inl w) =
+          let o = w .0 in
+          let u = w .1 in
+          (a, omega arith, (own-rights-bit a .1 (o, omega arith), sym (rightAt-column n a u)))
+      back (inr e) = (n, omega arith, (own-rights-bit n .1 (inherited-visible, omega arith), e ∙ sym (rightAt-row n)))
+
+-- the ordinary listing of an accepted catalogue is within the bounds
+pub ordinary-bounded : (cat : List ℕ) → Accepted cat → Bounded (ordinary cat)
+ordinary-bounded cat ok =
+    record {
+      targets = accepted-tables cat ok;
+      members = λ target h. accepted-visible cat ok target h;
+      rights = λ target h. own-rights-lt cat target;
+    }

@@ -13,7 +13,7 @@ use Rattle.columns.proofs.Test.{ifEq-yes, ifEq-no, ifLt-yes, ifLt-no}
 use Rattle.model.specs.Bounds.{fileBound, tableBound, row}
 use Rattle.model.specs.Catalogue.{tables, sets, visible}
 use Rattle.model.specs.Check.{Accepted}
-use Rattle.model.specs.Listing.{cells, ordinary, Belongs}
+use Rattle.model.specs.Listing.{cells, ordinary, Stands}
 use Rattle.model.specs.Calls.{flat}
 use Rattle.model.specs.Album.{album, albumLines}
 use Rattle.model.specs.Text.{decimal, decimalIn, rowWord, rightText, entryText, entryLine, linesOf, headLine, refusedLine, listingText, answerText}
@@ -21,7 +21,7 @@ use Rattle.model.specs.declared.Entry.{Entry}
 use Rattle.model.proofs.Check.{accepted-tables, accepted-visible}
 use Rattle.model.proofs.Rights.{right-is}
 use Rattle.model.proofs.Calls.{le-or-lt, flat-append}
-use Rattle.model.proofs.Listing.{belongs-is}
+use Rattle.model.proofs.Listing.{stands-is}
 use Rattle.model.proofs.Short.{sets-few, entries-few}
 use Rattle.model.proofs.Computes.{computes}
 
@@ -86,9 +86,9 @@ flat-from p cs = ap flat (sym (take-append-drop p cs)) ∙ flat-append (take p c
 module _ (b : List ℕ) (ok : Accepted b) where
   -- the entries of an accepted catalogue have such lines
   entry-short : (e : Entry) → List·Memᴰ e (flat (cells (ordinary b))) → length (entryLine e) ≤ 13
-  entry-short e m = at (belongs-is (ordinary b) e .0 m)
+  entry-short e m = at (stands-is (ordinary b) e .0 m)
     where
-      at : Belongs (ordinary b) e → length (entryLine e) ≤ 13
+      at : Stands (ordinary b) e → length (entryLine e) ≤ 13
       at h =
           let few = accepted-tables b ok in
           let narrow = accepted-visible b ok (e .target) (h .target) in

@@ -8,7 +8,7 @@ use Rattle.model.specs.Bounds.{workBound}
 use Rattle.model.specs.Refusal.{number}
 use Rattle.model.specs.Reply.{Reply, refused, answered}
 use Rattle.model.specs.Entry.{Ordered, Once}
-use Rattle.model.specs.Listing.{Listing, cells, countAll}
+use Rattle.model.specs.Listing.{Listing, cells, Stands, countAll}
 use Rattle.model.specs.Calls.{flat, Seen, Obeys, callCode}
 use Rattle.model.specs.declared.Entry.{Entry}
 use Rattle.model.specs.declared.Refusal.the-variants.{TooFewWords, PastTheEnd, RunTooShort}
@@ -92,11 +92,11 @@ pub record Demand3 {A : Type 0} (cs : List (List A)) (ss : List (Seen A)) : Type
   pub countsAdd : total entryCount ss ≡ length (joined ss)
   pub atTheLast : placeHeld 0 ss ≡ length cs → joined ss ≡ flat cs
 
--- and about a listing, with what it means that an entry stands there: at the last place the joined entries are exactly those, once, in the
--- stated order, and as many as there are
-pub record Complete (l : Listing) (Stands : Entry → Type 0) (ss : List (Seen Entry)) : Type 0 where
+-- and about a listing: at the last place the joined entries are exactly those that stand in it, once, in the stated order, and as many as
+-- there are
+pub record Complete (l : Listing) (ss : List (Seen Entry)) : Type 0 where
   pub calls : Demand3 (cells l) ss
-  pub exactly : placeHeld 0 ss ≡ length (cells l) → (e : Entry) → List·Memᴰ e (joined ss) ↔ Stands e
+  pub exactly : placeHeld 0 ss ≡ length (cells l) → (e : Entry) → List·Memᴰ e (joined ss) ↔ Stands l e
   pub once : placeHeld 0 ss ≡ length (cells l) → Once (joined ss)
   pub inOrder : placeHeld 0 ss ≡ length (cells l) → Ordered (joined ss)
   pub count : placeHeld 0 ss ≡ length (cells l) → length (joined ss) ≡ countAll l

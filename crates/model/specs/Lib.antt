@@ -5,6 +5,8 @@ pub mod Bytes
 pub mod Catalogue
 pub mod Check
 pub mod View
+pub mod Listed
+pub mod Rights
 pub mod Target
 pub mod Question
 pub mod Entry

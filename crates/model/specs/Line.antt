@@ -10,9 +10,9 @@ use Rattle.model.specs.Reply.{answered}
 use Rattle.model.specs.Catalogue.{visible, inherited}
 use Rattle.model.specs.Check.{Accepted, checkMeaning}
 use Rattle.model.specs.View.{Holds, Key, Breaks}
-use Rattle.model.specs.Target.{owner, ancestor, agreeAt, view, rightsOf}
+use Rattle.model.specs.Target.{owner, ancestor, agreeAt, view}
 use Rattle.model.specs.Entry.{entry}
-use Rattle.model.specs.Listing.{cells, ordinary}
+use Rattle.model.specs.Listing.{rightsOf, cells, ordinary}
 use Rattle.model.specs.Calls.{flat}
 use Rattle.model.specs.Album.{headOf, rowOf, trailerOf}
 
@@ -49,8 +49,8 @@ pub record Line : Type 0 where
   -- the table of each visible column of table 3, of table 2, and the right sides of both
   pub owners : map (owner inLine 3) (0 ∷ 1 ∷ 2 ∷ 3 ∷ 4 ∷ []) ≡ 0 ∷ 1 ∷ 2 ∷ 3 ∷ 3 ∷ []
   pub ownersAbove : map (owner inLine 2) (0 ∷ 1 ∷ 2 ∷ []) ≡ 0 ∷ 1 ∷ 2 ∷ []
-  pub rights : rightsOf inLine 3 ≡ 3 ∷ 4 ∷ row ∷ []
-  pub rightsAbove : rightsOf inLine 2 ≡ 2 ∷ row ∷ []
+  pub rights : rightsOf (ordinary inLine) 3 ≡ 3 ∷ 4 ∷ row ∷ []
+  pub rightsAbove : rightsOf (ordinary inLine) 2 ≡ 2 ∷ row ∷ []
   -- the rows that the rows 0 to 3 of table 3 lead to, one, two and three tables up, and in the table itself
   pub oneUp : map (ancestor inLine 2 3) (0 ∷ 1 ∷ 2 ∷ 3 ∷ []) ≡ 2 ∷ 0 ∷ 1 ∷ 0 ∷ []
   pub twoUp : map (ancestor inLine 1 3) (0 ∷ 1 ∷ 2 ∷ 3 ∷ []) ≡ 0 ∷ 1 ∷ 2 ∷ 1 ∷ []

@@ -1,11 +1,11 @@
 -- A row of a target with the ancestor rows that its parent numbers lead to, and what two such rows agree on ("Agreement"; a tree tuple of
 -- source 004's Definition 5 without the descendants, and Definitions 6 to 8).
-use Prim.Native.Nat.{ℕ, zero, suc, _-_}
-use mathlib.Core.List.{List, [], _∷_, _++_}
+use Prim.Native.Nat.{ℕ, zero, suc, _-_, _^_}
+use mathlib.Core.List.{List}
 use mathlib.Core.Bool.{Bool, true, false, not, _&&_, _||_}
 use lib.Dec.{eqb}
 use Rattle.columns.specs.Test.{ifEq, ifLt}
-use Rattle.model.specs.Bounds.{tableBound, missing, row}
+use Rattle.model.specs.Bounds.{tableBound, missing}
 use Rattle.model.specs.Catalogue.{columns, parent, rows, parentRow, cell, visible, inherited}
 use Rattle.model.specs.View.{View}
 
@@ -42,11 +42,6 @@ agreeAt b i v p q =
 abbrev pub view : List ℕ → ℕ → View
 view b i = record { rows = rows b i; members = visible b i; agree = agreeAt b i }
 
--- n numbers from i on
-unfoldable pub numbers : ℕ → ℕ → List ℕ
-numbers zero i = []
-numbers (suc n) i = i ∷ numbers n (suc i)
-
--- the right sides of a target: its own columns by their visible numbers, and the row last
-unfoldable pub rightsOf : List ℕ → ℕ → List ℕ
-rightsOf b i = numbers (columns b i) (inherited b i) ++ (row ∷ [])
+-- the right sides of a target as a mask over its visible columns and the row: its own columns, by their visible numbers, and the row
+abbrev pub ownRights : List ℕ → ℕ → ℕ
+ownRights cat target = 2 ^ suc (visible cat target) - 2 ^ inherited cat target

@@ -14,7 +14,8 @@ use Rattle.model.specs.Reply.{answered, refused, listReply}
 use Rattle.model.specs.Catalogue.{sets}
 use Rattle.model.specs.Calls.{flat, passed, written}
 use Rattle.model.specs.Listing.{cells, ordinary}
-use Rattle.model.specs.List.{listCode}
+use Rattle.model.specs.Check.{checkCode}
+use Rattle.model.specs.List.{listCode, ListMeaning}
 use Rattle.model.specs.Entry.{entry}
 use Rattle.model.specs.declared.Entry.{Entry}
 use Rattle.model.specs.declared.Refusal.{Refusal}
@@ -24,9 +25,10 @@ use Rattle.model.proofs.Calls.{call-none, passed-fit-at}
 use Rattle.model.proofs.Stops.{passed-in-range, written-fits}
 use Rattle.model.proofs.Rightly.{reply-answered, run-answered}
 use Rattle.model.proofs.Listing.{cells-length}
-use Rattle.model.proofs.Complete.{accepted-code}
+use Rattle.model.proofs.Complete.{after-none}
+use Rattle.model.proofs.Rights.{ordinary-bounded}
 use Rattle.model.proofs.Short.{cell-short}
-use Rattle.listing.specs.Steps.{Listed, seen}
+use Rattle.listing.specs.Seen.{seen}
 use Rattle.listing.specs.Filled.{runBound, cap, FilledBy}
 use Rattle.pages.specs.Pages.{Listable}
 
@@ -63,7 +65,7 @@ module _ (b : List ℕ) (last : ℕ) (h : Listable b last) (place : ℕ) (inRang
 
   -- the statement about the call, with room for r records
   abbrev Call : ListAnswer → List Entry → List ℕ → Type 0
-  Call a run workThen = Listed b (seen place last (replicate r (entry 0 0 0)) work (listReply a) (take r run) workThen)
+  Call a run workThen = ListMeaning b (seen place last (replicate r (entry 0 0 0)) work (listReply a) (take r run) workThen)
 
   lastly : last ≡ length cs
   lastly = h .whole ∙ sym (cells-length b)
@@ -72,12 +74,12 @@ module _ (b : List ℕ) (last : ℕ) (h : Listable b last) (place : ℕ) (inRang
   places = omega (arith, lastly)
 
   wide : (p : ℕ) → length (getD cs p []) ≤ length (replicate r (entry 0 0 0))
-  wide p = omega (arith, cell-short b (h .accepted) p, length-replicate r (entry 0 0 0))
+  wide p = omega (arith, cell-short (ordinary b) (ordinary-bounded b (h .accepted)) p, length-replicate r (entry 0 0 0))
 
   -- nothing stands against it
   no-code : listCode b place last (length (replicate r (entry 0 0 0))) (length work) ≡ 0
   no-code =
-      accepted-code b (h .accepted) place last (length (replicate r (entry 0 0 0))) (length work)
+      after-none (checkCode b) (h .accepted) (cells (ordinary b)) place last (length (replicate r (entry 0 0 0))) (length work)
       ∙ call-none cs place last (length (replicate r (entry 0 0 0))) (length work) enough places (λ _ _. wide place)
 
   pub never-refused : (why : Refusal) (run : List Entry) (workThen : List ℕ) → Call (answer.Refused why) run workThen → ⊥

@@ -20,7 +20,8 @@ use Rattle.model.specs.View.{agreeRight, holds, Minimal}
 use Rattle.model.proofs.Truth.{is-true, true-is, eqb-is}
 use Rattle.model.proofs.View.{agreeRight-reflexive, holds-true, true-holds, minimal-is}
 use Rattle.table.specs.Words.{lackingOf}
-use Rattle.table.specs.Broken.{rightAt, rightsMask}
+use Rattle.table.specs.Broken.{minimalMask}
+use Rattle.model.specs.Rights.{rightAt}
 use Rattle.table.proofs.Bits.{bit-none, bit-with-same, bit-with-other, bit-lacking}
 use Rattle.table.proofs.Table.{right-row, right-column, right-in, bit-zero-if, minimal-mask}
 use Rattle.leaders.specs.Leaders.{leaderOf}
@@ -189,7 +190,7 @@ module _ (keys : List ℕ) (n end x own : ℕ) (few : n ≤ columnBound) (small 
         ),
   )
 
-  pub needed-rights : r ≡ rightsMask (keyView keys n end) own x
+  pub needed-rights : r ≡ minimalMask (keyView keys n end) own x
   needed-rights =
       minimal-mask (keyView keys n end) x own r asked
       (λ a e. let i = given a .0 (kept a .0 e .0) .0 in omega (arith, bit-lacking own x a))

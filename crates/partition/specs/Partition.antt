@@ -8,7 +8,7 @@ use lib.ListN.{getD, length}
 use Rattle.columns.specs.Set.{bit, withoutOf}
 use Rattle.model.specs.Bounds.{rowBound}
 use Rattle.model.specs.View.{In, holds}
-use Rattle.table.specs.Broken.{rightAt}
+use Rattle.model.specs.Rights.{rightAt}
 use Rattle.leaders.specs.Leaders.{leaderOf, AllLead}
 use Rattle.leaders.specs.Keys.{keyAt, keyView}
 

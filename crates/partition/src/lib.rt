@@ -12,7 +12,7 @@ ghost use Rattle.columns.specs.Bound.{columnBound};
 ghost use Rattle.columns.specs.Set.{bit};
 ghost use Rattle.model.specs.Bounds.{rowBound};
 ghost use Rattle.model.specs.View.{In};
-ghost use Rattle.table.specs.Broken.{rightsMask};
+ghost use Rattle.table.specs.Broken.{minimalMask};
 ghost use Rattle.leaders.specs.Keys.{keyView};
 ghost use Rattle.partition.specs.Partition.{keyBound, wordOf, Led, Joined, Back, Gives, GivenBelow, Given, Spares};
 use bits::power;
@@ -204,7 +204,7 @@ pub fn minimal_alone(keys: &[u16; SIZE], n: u32, end: usize, own: u32, x: u32) -
     requires { ⌜ end ≤ rowBound ⌝ }
     requires { ⌜ x < 2 ^ n ⌝ }
     requires { ⌜ own < 2 ^ suc n ⌝ }
-    ensures { λ r. ⌜ r ≡ rightsMask (keyView (now (keys .entry)) n end) own x ⌝ }
+    ensures { λ r. ⌜ r ≡ minimalMask (keyView (now (keys .entry)) n end) own x ⌝ }
 {
     let mut kept = given(keys, n, end, x, lacking(own, x));
     let mut k: u32 = 0;

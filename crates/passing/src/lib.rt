@@ -1,17 +1,25 @@
-// Not for callers: where a walk through the sets of a listing stands, and how it passes its set: with the set's rights pending if their entries fit,
-// and else not at all. It looks at no catalogue.
-// Relies on the definitions of `model` and `columns`. Called by `walk`; `steps` names its types.
+// Not for callers: where a walk through the sets of a listing stands, and how it passes its set: with the set's rights pending if their
+// entries fit, and else not at all. It looks at no catalogue.
+// Relies on the definitions of `model` and `columns`. Called by `walk`; `rights` and `steps` name its types.
 ghost use mathlib.Core.Path.{_≡_};
 ghost use Rattle.passing.specs.Pass.{passedBy, Passable};
 
-// Where a call stands: the set that it passed last, with how many members its target has and how the work words are used for that target;
-// the place after it, the budget and the room that are left from there on, how many sets are passed and how many entries they have; and the
-// rights of the set that are still to be put.
+// What the work words hold for a target: the table of broken rights, a word for each left side; or a bit for each agree set, and the rights
+// of some left sides.
+pub enum Held {
+    Table,
+    Seeds,
+}
+
+// Where a call stands: the set that it passed last, with how many members its target has, what the work words hold for that target and which
+// rights it has; the place after the set, the budget and the room that are left from there on, how many sets are passed and how many entries
+// they have; and the rights of the set that are still to be put.
 pub struct Walk {
     pub target: u32,
     pub left: u32,
     pub members: u32,
-    pub mode: u32,
+    pub held: Held,
+    pub own: u32,
     pub place: u32,
     pub budget: u32,
     pub room: usize,
@@ -32,20 +40,15 @@ pub fn passed(w: Walk, mask: u32) -> Reached
     ensures { λ r. ⌜ r ≡ passedBy w mask ⌝ }
 {
     let entries = u32::count_ones(mask);
-    let room = w.room;
-    if room < entries as usize {
+    if w.room < entries as usize {
         return Reached::Stop;
     }
-    Reached::At(Walk {
-        target: w.target,
-        left: w.left,
-        members: w.members,
-        mode: w.mode,
-        place: w.place + 1,
-        budget: w.budget - 1,
-        room: room - entries as usize,
-        passed: w.passed + 1,
-        count: w.count + entries,
-        pending: mask,
-    })
+    let mut v = w;
+    v.place += 1;
+    v.budget -= 1;
+    v.room -= entries as usize;
+    v.passed += 1;
+    v.count += entries;
+    v.pending = mask;
+    Reached::At(v)
 }

@@ -14,7 +14,8 @@ use Rattle.model.specs.View.{View, Equivalence, Holds, holds, Minimal, minimal}
 use Rattle.model.proofs.Truth.{is-true, is-false, decided}
 use Rattle.model.proofs.View.{holds-is, holds-false, false-holds, minimal-is, not-holds-breaks, breaks-holds-false}
 use Rattle.table.specs.Words.{word}
-use Rattle.table.specs.Broken.{rightAt, agreeSetOf}
+use Rattle.table.specs.Broken.{agreeSetOf}
+use Rattle.model.specs.Rights.{rightAt}
 use Rattle.table.proofs.Table.{agreeSet-below, above-agreeOn, agreeOn-above, member-below, right-agreed, right-lacked}
 use Rattle.table.proofs.Table.{right-in, bit-zero-if}
 use Rattle.planes.specs.Bits.{planeBit, Filled, Narrow}

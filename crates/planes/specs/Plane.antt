@@ -6,7 +6,8 @@ use mathlib.Core.Logic.{_↔_}
 use mathlib.Core.Bool.{false}
 use mathlib.Core.List.{List}
 use Rattle.model.specs.View.{View, Equivalence, holds}
-use Rattle.table.specs.Broken.{rightAt, Occurs}
+use Rattle.table.specs.Broken.{Occurs}
+use Rattle.model.specs.Rights.{rightAt}
 use Rattle.planes.specs.Bits.{planeBit}
 
 -- how many words the seeds of n columns take

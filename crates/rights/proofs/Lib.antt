@@ -1,3 +1,3 @@
 pub mod Mask
-pub mod Own
-pub mod Modes
+pub mod Kept
+pub mod Held

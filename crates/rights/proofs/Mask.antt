@@ -9,7 +9,6 @@ use native.Mathlib.Nat.{add-zero, div-eq-of-lt, two-pow-succ, zero-add, div-one}
 use native.Mathlib.Numerals.{add-one}
 use native.Mathlib.Decide.{ℕ-discrete}
 use native.Mathlib.Omega.{arith}
-use borrow.Author.Tests.{le-leb, lt-leb}
 use lib.Pow.{shr-shr}
 use lib.ListN.{length}
 use lib.Count.{ones, onesIn, ones-step, trailingZeros, under}
@@ -17,31 +16,19 @@ use Rattle.columns.specs.Set.{bit, withoutOf}
 use Rattle.columns.specs.Test.{pick, ifEq}
 use Rattle.columns.proofs.Test.{ifEq-yes, ifEq-no}
 use Rattle.columns.proofs.Bits.{bit-zero, bit-suc, bit-past, bit-without-same, bit-without-other, without-some}
-use Rattle.model.specs.Bounds.{row}
-use Rattle.model.specs.Catalogue.{columns, visible, inherited}
-use Rattle.model.specs.View.{minimal}
-use Rattle.model.specs.Target.{view, numbers, rightsOf}
-use Rattle.model.specs.Listing.{entriesOf, ordinary}
+use Rattle.columns.proofs.SetBelow.{setBelow-bit, setBelow-lt}
+use Rattle.model.specs.View.{View, isIn}
+use Rattle.model.specs.Listed.{listed}
+use Rattle.model.specs.Rights.{rightAt, rightsFrom, rightsIn}
+use Rattle.model.specs.Listing.{Listing, widthOf, rightsOf, entriesOf}
 use Rattle.model.specs.Entry.{entry}
 use Rattle.model.specs.declared.Entry.{Entry}
-use Rattle.model.proofs.Rights.{inherited-own}
 use Rattle.model.proofs.Calls.{le-or-lt}
-use Rattle.columns.proofs.SetBelow.{setBelow-bit, setBelow-lt}
-use Rattle.rights.specs.Rights.{rightAt, isListed, rightsMask, entriesIn, entriesOfMask, lowest}
+use Rattle.rights.specs.Rights.{listedMask, listedRights, entriesIn, entriesOfMask, lowest}
 
--- a mask of rights is a number of n + 1 bits
-pub mask-lt : (b : List ℕ) (t x : ℕ) → rightsMask b t x < 2 ^ suc (visible b t)
-unfolding rightsMask
-mask-lt b t x = setBelow-lt (suc (visible b t)) (isListed b t x)
-
--- the row, and the columns
-pub rightAt-row : (n : ℕ) → rightAt n n ≡ row
-unfolding rightAt
-rightAt-row n = ifEq-yes n refl
-
-pub rightAt-column : (n a : ℕ) → a < n → rightAt n a ≡ a
-unfolding rightAt
-rightAt-column n a h = ifEq-no row (λ (e : a ≡ n). omega arith)
+-- the listed rights of a view are a number of n + 1 bits
+pub mask-lt : (v : View) (own x : ℕ) → listedMask v own x < 2 ^ suc (v .members)
+mask-lt v own x = setBelow-lt (suc (v .members)) (λ k. isIn k own && listed v x (rightAt (v .members) k))
 
 module _ (t x n m : ℕ) where
   -- one bit
@@ -160,60 +147,35 @@ entries-none t x n m e = ap (entriesOfMask t x n) e ∙ nothing (suc n) 0
     nothing (suc j) k = in-no t x n 0 j k (bit-past 0 0 k (omega arith) (omega arith)) ∙ nothing j (suc k)
 
 -- the listed rights give the entries of the listing
-module _ (b : List ℕ) (t x : ℕ) where
-  mask-bit : (a : ℕ) → a ≤ visible b t → bit (rightsMask b t x) a ≡ pick (isListed b t x a) 1 0
-  unfolding rightsMask
-  mask-bit a h = setBelow-bit (suc (visible b t)) (isListed b t x) a (omega arith)
+module _ (l : Listing) (t x : ℕ) where
+  mask-bit : (k : ℕ) → k ≤ widthOf l t
+      → bit (listedRights l t x) k ≡ pick (isIn k (l .rights t) && listed (l .view t) x (rightAt (widthOf l t) k)) 1 0
+  mask-bit k h =
+      setBelow-bit (suc (widthOf l t)) (λ k. isIn k (l .rights t) && listed (l .view t) x (rightAt (widthOf l t) k)) k
+      (omega arith)
 
-  pub listed-above : (a : ℕ) → inherited b t ≤ a → isListed b t x a ≡ minimal (view b t) x (rightAt (visible b t) a)
-  unfolding isListed
-  listed-above a h = ap (λ (g : Bool). g && minimal (view b t) x (rightAt (visible b t) a)) (le-leb (inherited b t) a h)
+  chosen : (g : Bool) (e : Entry) (es : List Entry) → pick g (e ∷ es) es ≡ ifEq (pick g 1 0) 1 (e ∷ es) es
+  chosen true e es = sym (ifEq-yes es refl)
+  chosen false e es = sym (ifEq-no (e ∷ es) (λ (o : 0 ≡ 1). omega arith))
 
-  pub listed-below : (a : ℕ) → a < inherited b t → isListed b t x a ≡ false
-  unfolding isListed
-  listed-below a h = ap (λ (g : Bool). g && minimal (view b t) x (rightAt (visible b t) a)) (lt-leb (inherited b t) a h)
+  -- one bit: as the listing has it, and as the number has it
+  one : (g : Bool) (a : ℕ) (rs : List ℕ)
+      → entriesOf l t x (pick g (a ∷ rs) rs)
+      ≡ ifEq (pick (g && listed (l .view t) x a) 1 0) 1 (entry t x a ∷ entriesOf l t x rs) (entriesOf l t x rs)
+  unfolding entriesOf
+  one true a rs = chosen (listed (l .view t) x a) (entry t x a) (entriesOf l t x rs)
+  one false a rs = sym (ifEq-no (entry t x a ∷ entriesOf l t x rs) (λ (o : 0 ≡ 1). omega arith))
 
-  chosen : (g : Bool) (e : Entry) (l : List Entry) → pick g (e ∷ l) l ≡ ifEq (pick g 1 0) 1 (e ∷ l) l
-  chosen true e l = sym (ifEq-yes l refl)
-  chosen false e l = sym (ifEq-no (e ∷ l) (λ (o : 0 ≡ 1). omega arith))
+  entries-from : (j k : ℕ) → k + j ≤ suc (widthOf l t)
+      → entriesOf l t x (rightsFrom (widthOf l t) (l .rights t) j k)
+      ≡ entriesIn t x (widthOf l t) (listedRights l t x) j k
+  unfolding entriesOf entriesIn rightsFrom
+  entries-from zero k h = refl
+  entries-from (suc j) k h =
+      one (isIn k (l .rights t)) (rightAt (widthOf l t) k) (rightsFrom (widthOf l t) (l .rights t) j (suc k))
+      ∙ ap₂ (λ (i : ℕ) (es : List Entry). ifEq i 1 (entry t x (rightAt (widthOf l t) k) ∷ es) es)
+      (sym (mask-bit k (omega arith))) (entries-from j (suc k) (omega arith))
 
-  -- one right: as the listing has it, and as the number has it
-  one : (a k : ℕ) (l : List Entry) → inherited b t ≤ k → k ≤ visible b t → rightAt (visible b t) k ≡ a
-      → pick (minimal (view b t) x a) (entry t x a ∷ l) l
-      ≡ ifEq (bit (rightsMask b t x) k) 1 (entry t x (rightAt (visible b t) k) ∷ l) l
-  one a k l h u e =
-      chosen (minimal (view b t) x a) (entry t x a) l
-      ∙ ap₂ (λ (i c : ℕ). ifEq i 1 (entry t x c ∷ l) l)
-      (ap (λ (c : ℕ). pick (minimal (view b t) x c) 1 0) (sym e)
-      ∙ ap (λ (g : Bool). pick g 1 0) (sym (listed-above k h)) ∙ sym (mask-bit k u)) (sym e)
-
-  own : (c k : ℕ) → inherited b t ≤ k → k + c ≡ visible b t
-      → entriesOf (ordinary b) t x (numbers c k ++ (row ∷ []))
-      ≡ entriesIn t x (visible b t) (rightsMask b t x) (suc c) k
-  unfolding entriesOf entriesIn numbers
-  own zero k h e =
-      let q : k ≡ visible b t = omega arith in
-      one row k [] h (omega arith) (ap (rightAt (visible b t)) q ∙ rightAt-row (visible b t))
-  own (suc c) k h e =
-      one k k (entriesOf (ordinary b) t x (numbers c (suc k) ++ (row ∷ []))) h (omega arith)
-      (rightAt-column (visible b t) k (omega arith))
-      ∙ ap
-      (λ (l : List Entry). ifEq (bit (rightsMask b t x) k) 1 (entry t x (rightAt (visible b t) k) ∷ l) l)
-      (own c (suc k) (omega arith) (omega arith))
-
-  inheritedSkipped : (d k w c : ℕ) → k + d ≡ inherited b t → w ≡ d + c → inherited b t ≤ visible b t
-      → entriesIn t x (visible b t) (rightsMask b t x) w k ≡ entriesIn t x (visible b t) (rightsMask b t x) c (inherited b t)
-  inheritedSkipped zero k w c e f h =
-      ap₂ (entriesIn t x (visible b t) (rightsMask b t x)) (omega arith) (omega arith)
-  inheritedSkipped (suc d) k zero c e f h = absurd (omega arith)
-  inheritedSkipped (suc d) k (suc w) c e f h =
-      in-no t x (visible b t) (rightsMask b t x) w k
-      (mask-bit k (omega arith) ∙ ap (λ (g : Bool). pick g 1 0) (listed-below k (omega arith)))
-      ∙ inheritedSkipped d (suc k) w c (omega arith) (omega arith) h
-
-  pub entries-of-rights : entriesOf (ordinary b) t x (rightsOf b t) ≡ entriesOfMask t x (visible b t) (rightsMask b t x)
-  unfolding rightsOf entriesOfMask
-  entries-of-rights =
-      let e = inherited-own b t in
-      own (columns b t) (inherited b t) (omega arith) e
-      ∙ sym (inheritedSkipped (inherited b t) 0 (suc (visible b t)) (suc (columns b t)) (omega arith) (omega arith) (omega arith))
+  pub entries-of-rights : entriesOf l t x (rightsOf l t) ≡ entriesOfMask t x (widthOf l t) (listedRights l t x)
+  unfolding rightsOf rightsIn entriesOfMask
+  entries-of-rights = entries-from (suc (widthOf l t)) 0 (omega arith)

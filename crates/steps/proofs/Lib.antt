@@ -1,3 +1,3 @@
-pub mod Puts
+pub mod Putting
 pub mod Stepping
 pub mod Begins

@@ -4,6 +4,8 @@
 // grounds, on `layout` for the number of sets and on `lent` for the work words. Called by `listing`.
 mod put;
 
+ghost use Rattle.model.specs.Check.{checkCode, Accepted};
+ghost use Rattle.model.specs.Listing.{ordinary};
 ghost use Rattle.walk.specs.Meaning.{Good};
 ghost use Rattle.steps.specs.Steps.{Began, Went};
 use grounds::check_code;
@@ -28,8 +30,8 @@ pub enum Stepped {
 
 // One step: the next entry, or the answer.
 pub fn step(cat: &[u8], w: Walk, work: &mut [u32]) -> Stepped
-    requires { ⌜ Good (now cat) w (now work) ⌝ }
-    ensures { λ r. ⌜ Went (now (cat .entry)) w (now (work .entry)) r (now (work .exit)) ⌝ }
+    requires { ⌜ Accepted (now cat) × Good (ordinary (now cat)) w (now work) ⌝ }
+    ensures { λ r. ⌜ Went (ordinary (now (cat .entry))) w (now (work .entry)) r (now (work .exit)) ⌝ }
 {
     let mut v = w;
     while v.pending == 0 {
@@ -50,7 +52,8 @@ pub fn step(cat: &[u8], w: Walk, work: &mut [u32]) -> Stepped
 
 // The first step of a call: a refusal, the first entry, or the answer.
 pub fn begin(cat: &[u8], place: u32, budget: u32, room: usize, work: &mut [u32]) -> Stepped
-    ensures { λ r. ⌜ Began (now (cat .entry)) place budget room (now (work .entry)) r (now (work .exit)) ⌝ }
+    ensures { λ r. ⌜ Began (checkCode (now (cat .entry))) (ordinary (now (cat .entry))) place budget room (now (work .entry)) r
+        (now (work .exit)) ⌝ }
 {
     let code = check_code(cat);
     if code != 0 {

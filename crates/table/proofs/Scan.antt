@@ -12,7 +12,8 @@ use Rattle.columns.specs.Test.{pick}
 use Rattle.model.specs.View.{View}
 use Rattle.table.specs.Words.{word}
 use Rattle.table.specs.Broken.{Occurs, brokenBy, Scanned}
-use Rattle.table.proofs.Bits.{bit-none, bit-complement}
+use Rattle.columns.proofs.Bits.{bit-complement}
+use Rattle.table.proofs.Bits.{bit-none}
 
 -- its bits
 broken-bit : (n s a : ℕ) → s < 2 ^ n → a ≤ n → bit (brokenBy n s) a ≡ 1 - bit s a

@@ -21,7 +21,8 @@ use Rattle.model.proofs.Truth.{is-true, true-is, is-false, and-is, eqb-is, deci
 use Rattle.model.proofs.View.{isIn-is, holds-is, holds-false, false-holds, minimal-is}
 use Rattle.model.proofs.View.{not-holds-breaks, breaks-holds-false}
 use Rattle.table.specs.Words.{word, Above, Closed, Read}
-use Rattle.table.specs.Broken.{rightAt, agreeSetOf, Scanned, Table, rightsMask}
+use Rattle.table.specs.Broken.{agreeSetOf, Scanned, Table, minimalMask}
+use Rattle.model.specs.Rights.{rightAt}
 use Rattle.columns.proofs.SetBelow.{setBelow-lt}
 use Rattle.table.proofs.Bits.{mask-bit}
 
@@ -193,11 +194,11 @@ same-digit b c hb hc f g = at (ℕ-discrete b 1) (ℕ-discrete c 1)
 -- a mask whose bits are the rights asked for that are minimal is the number of those rights
 pub minimal-mask : (v : View) (x own r : ℕ) → own < 2 ^ suc (v .members) → ((a : ℕ) → bit r a ≡ 1 → bit own a ≡ 1)
     → ((a : ℕ) → a ≤ v .members → (bit r a ≡ 1) ↔ ((bit own a ≡ 1) × (minimal v x (rightAt (v .members) a) ≡ true)))
-    → r ≡ rightsMask v own x
+    → r ≡ minimalMask v own x
 minimal-mask v x own r o asked is =
-    bits-same (r + width) r (rightsMask v own x) (omega (arith, below-own-power r, pow-mono from-r))
+    bits-same (r + width) r (minimalMask v own x) (omega (arith, below-own-power r, pow-mono from-r))
     (omega (arith, setBelow-lt width test, pow-mono from-width))
-    (λ a k. same-digit (bit r a) (bit (rightsMask v own x) a) (omega arith) (omega arith) (to a) (from a))
+    (λ a k. same-digit (bit r a) (bit (minimalMask v own x) a) (omega arith) (omega arith) (to a) (from a))
   where
     width : ℕ
     width = suc (v .members)
@@ -211,14 +212,14 @@ minimal-mask v x own r o asked is =
     test : ℕ → Bool
     test a = isIn a own && minimal v x (rightAt (v .members) a)
 
-    to : (a : ℕ) → bit r a ≡ 1 → bit (rightsMask v own x) a ≡ 1
+    to : (a : ℕ) → bit r a ≡ 1 → bit (minimalMask v own x) a ≡ 1
     to a e =
         let h = member-below width own a o (asked a e) in
         let m = is a (omega arith) .0 e in
         mask-bit width test a .1
         (h, and-is (isIn a own) (minimal v x (rightAt (v .members) a)) .1 (isIn-is a own .1 (m .0), true-is (m .1)))
 
-    from : (a : ℕ) → bit (rightsMask v own x) a ≡ 1 → bit r a ≡ 1
+    from : (a : ℕ) → bit (minimalMask v own x) a ≡ 1 → bit r a ≡ 1
     from a e =
         let f = mask-bit width test a .0 e in
         let l = f .0 in
@@ -227,6 +228,6 @@ minimal-mask v x own r o asked is =
 
 -- and so the mask that `minimal_rights` promises is that number
 pub rights-mask : (v : View) (ws : List ℕ) (x own r : ℕ) → v .members ≤ columnBound → Table v ws → x < 2 ^ v .members
-    → own < 2 ^ suc (v .members) → ((a : ℕ) → (bit r a ≡ 1) ↔ Read ws x own a) → r ≡ rightsMask v own x
+    → own < 2 ^ suc (v .members) → ((a : ℕ) → (bit r a ≡ 1) ↔ Read ws x own a) → r ≡ minimalMask v own x
 rights-mask v ws x own r b table l o read =
     minimal-mask v x own r o (λ a e. read a .0 e .asked) (rights-minimal v ws x own r b table l read)

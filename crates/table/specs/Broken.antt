@@ -7,14 +7,9 @@ use mathlib.Core.Logic.{_↔_}
 use mathlib.Core.Bool.{false, _&&_}
 use mathlib.Core.List.{List}
 use Rattle.columns.specs.Set.{bit, setBelow}
-use Rattle.columns.specs.Test.{ifEq}
-use Rattle.model.specs.Bounds.{row}
+use Rattle.model.specs.Rights.{rightAt}
 use Rattle.model.specs.View.{View, isIn, holds, minimal}
 use Rattle.table.specs.Words.{word}
-
--- the right side that bit a stands for, of n members
-unfoldable pub rightAt : ℕ → ℕ → ℕ
-rightAt n a = ifEq a n row a
 
 -- the agree set of two rows: the members on which they agree
 abbrev pub agreeSetOf : View → ℕ → ℕ → ℕ
@@ -54,6 +49,6 @@ Table v ws =
     → (bit (word ws x) a ≡ 1) ↔ (holds v x (rightAt (v .members) a) ≡ false)
 
 -- the rights of the left side x as a number: those asked for that are minimal
-abbrev pub rightsMask : View → ℕ → ℕ → ℕ
-rightsMask v own x =
+abbrev pub minimalMask : View → ℕ → ℕ → ℕ
+minimalMask v own x =
     setBelow (suc (v .members)) (λ a. isIn a own && minimal v x (rightAt (v .members) a))

@@ -16,23 +16,25 @@ use Rattle.columns.specs.declared.ColumnSet.{ColumnSet}
 use Rattle.columns.specs.declared.SetOrNone.{SetOrNone}
 use Rattle.columns.specs.declared.SetOrNone.the-variants.{Set, Nothing}
 use Rattle.model.specs.Bounds.{tableBound, workBound}
-use Rattle.model.specs.Catalogue.{tables, visible}
-use Rattle.model.specs.Check.{Accepted}
 use Rattle.model.specs.Calls.{passed, written}
+use Rattle.model.specs.Listing.{Listing, widthOf, cells, Bounded}
 use Rattle.model.specs.Reply.{answered}
 use Rattle.model.specs.declared.Entry.{Entry}
-use Rattle.model.proofs.Calls.{passed-nil, written-nil, passed-spent, written-spent, passed-full, written-full, passed-fit, written-fit}
-use Rattle.model.proofs.Check.{accepted-visible}
+use Rattle.model.proofs.Calls.{passed-nil, written-nil, passed-spent, written-spent}
+use Rattle.model.proofs.Calls.{passed-full, written-full, passed-fit, written-fit}
+use Rattle.model.proofs.Short.{places-few}
 use Rattle.passing.specs.Pass.{rightBound, passedOn, passedBy, Passable}
+use Rattle.passing.specs.declared.Held.{Held}
 use Rattle.passing.specs.declared.Walk.{Walk}
 use Rattle.passing.specs.declared.Reached.{Reached}
 use Rattle.passing.specs.declared.Reached.the-variants.{At, Stop}
-use Rattle.rights.specs.Rights.{rightsMask, entriesOfMask, Ready}
+use Rattle.rights.specs.Ready.{Ready}
+use Rattle.rights.specs.Rights.{listedRights, entriesOfMask}
 use Rattle.rights.proofs.Mask.{mask-lt, entries-count, entries-none, entries-of-rights}
-use Rattle.walk.specs.Stands.{Stands, StandsBefore, Found}
-use Rattle.walk.specs.Meaning.{cellsOf, ahead, final, Good}
-use Rattle.walk.specs.Walks.{Fresh, First, Same, cellOf, withMode, Passes, After, Follows, Stopped, Goes}
-use Rattle.walk.proofs.Stands.{stands-cells, stands-inside, stands-before, chosen-lt, next-within, next-target, next-none, found-stands, sets-le}
+use Rattle.walk.specs.Places.{SetAt, SetBefore, Found}
+use Rattle.walk.specs.Meaning.{ahead, final, Sound, Good}
+use Rattle.walk.specs.Walks.{Fresh, First, Same, cellOf, movedTo, Passes, After, Follows, Stopped, Goes}
+use Rattle.walk.proofs.Places.{stands-cells, stands-inside, stands-before, chosen-lt, next-within, next-target, next-none, found-stands}
 
 answers : {a b c d e f : ℕ} → a ≡ d → b ≡ e → c ≡ f → answered (a ∷ b ∷ c ∷ []) ≡ answered (d ∷ e ∷ f ∷ [])
 answers p q r = cc
@@ -57,111 +59,114 @@ module _ {A : Type 0} (cs : List (List A)) (p g r k : ℕ) (c : List A) (here : 
       ∙ ap₂ (λ (s : ℕ) (l : List (List A)). suc (passed (g - 1) s l)) room next
 
 -- nothing is pending
-module _ (cat : List ℕ) (w : Walk) (nothing : w .pending ≡ 0) where
-  pub ahead-next : ahead cat w ≡ written (w .budget) (w .room) (drop (w .place) (cellsOf cat))
+module _ (l : Listing) (w : Walk) (nothing : w .pending ≡ 0) where
+  pub ahead-next : ahead l w ≡ written (w .budget) (w .room) (drop (w .place) (cells l))
   unfolding ahead
   ahead-next =
-      ap (λ (l : List Entry). l ++ written (w .budget) (w .room) (drop (w .place) (cellsOf cat)))
+      ap (λ (es : List Entry). es ++ written (w .budget) (w .room) (drop (w .place) (cells l)))
       (entries-none (w .target) (w .left) (w .members) (w .pending) nothing)
 
   -- and nothing is passed
-  stopped : passed (w .budget) (w .room) (drop (w .place) (cellsOf cat)) ≡ 0
-      → written (w .budget) (w .room) (drop (w .place) (cellsOf cat)) ≡ [] → Stopped cat w
+  stopped : passed (w .budget) (w .room) (drop (w .place) (cells l)) ≡ 0
+      → written (w .budget) (w .room) (drop (w .place) (cells l)) ≡ [] → Stopped l w
   unfolding final
   stopped p e = record { put = ahead-next ∙ e; reply = answers (omega arith) (omega arith) (omega (arith, ap length e)) }
 
-  pub stopped-spent : w .budget ≡ 0 → Stopped cat w
+  pub stopped-spent : w .budget ≡ 0 → Stopped l w
   stopped-spent z =
-      stopped (ap (λ (g : ℕ). passed g (w .room) (drop (w .place) (cellsOf cat))) z ∙ passed-spent (w .room) _)
-      (ap (λ (g : ℕ). written g (w .room) (drop (w .place) (cellsOf cat))) z ∙ written-spent (w .room) _)
+      stopped (ap (λ (g : ℕ). passed g (w .room) (drop (w .place) (cells l))) z ∙ passed-spent (w .room) _)
+      (ap (λ (g : ℕ). written g (w .room) (drop (w .place) (cells l))) z ∙ written-spent (w .room) _)
 
-  pub stopped-end : drop (w .place) (cellsOf cat) ≡ [] → Stopped cat w
+  pub stopped-end : drop (w .place) (cells l) ≡ [] → Stopped l w
   stopped-end z =
       stopped (ap (passed (w .budget) (w .room)) z ∙ passed-nil Entry (w .budget) (w .room))
       (ap (written (w .budget) (w .room)) z ∙ written-nil Entry (w .budget) (w .room))
 
 -- a walk at a set
-module _ (cat : List ℕ) (w : Walk) (words : List ℕ) (f : Fresh cat w words) where
-  pub cell-here : drop (w .place) (cellsOf cat) ≡ cellOf cat w ∷ drop (suc (w .place)) (cellsOf cat)
-  cell-here = stands-cells cat (w .target) (w .left) (w .place) (f .stands)
+module _ (l : Listing) (w : Walk) (words : List ℕ) (f : Fresh l w words) where
+  pub cell-here : drop (w .place) (cells l) ≡ cellOf l w ∷ drop (suc (w .place)) (cells l)
+  cell-here = stands-cells l (w .target) (w .left) (w .place) (f .stands)
 
-  pub fresh-full : w .room < length (cellOf cat w) → Stopped cat w
+  pub fresh-full : w .room < length (cellOf l w) → Stopped l w
   fresh-full h =
-      stopped cat w (f .pending)
+      stopped l w (f .pending)
       (ap (passed (w .budget) (w .room)) cell-here ∙ passed-full (w .budget) (w .room) _ _ h)
       (ap (written (w .budget) (w .room)) cell-here ∙ written-full (w .budget) (w .room) _ _ h)
 
-  pub fresh-target : w .target < tables cat
+  pub fresh-target : w .target < l .targets
   fresh-target = f .stands .set .target
 
-  pub fresh-left : w .left < 2 ^ visible cat (w .target)
-  fresh-left = chosen-lt cat (w .target) (w .left) (f .stands .index) (f .stands .set)
+  pub fresh-left : w .left < 2 ^ widthOf l (w .target)
+  fresh-left = chosen-lt l (w .target) (w .left) (f .stands .index) (f .stands .set)
 
-  fresh-few : visible cat (w .target) ≤ columnBound
-  fresh-few = accepted-visible cat (f .sound .accepted) (w .target) fresh-target
+  pub fresh-inside : w .left < 2 ^ w .members
+  fresh-inside = subst (λ (n : ℕ). w .left < 2 ^ n) (sym (f .sound .members)) fresh-left
+
+  fresh-few : widthOf l (w .target) ≤ columnBound
+  fresh-few = f .sound .bounded .members (w .target) fresh-target
 
   fresh-place : w .place < tableBound * 2 ^ columnBound
   fresh-place =
-      omega (arith, stands-inside cat (w .target) (w .left) (w .place) (f .stands), sets-le cat (f .sound .accepted))
+      omega (arith, stands-inside l (w .target) (w .left) (w .place) (f .stands), places-few l (f .sound .bounded))
 
   -- its rights
-  module _ (mask : ℕ) (is : mask ≡ rightsMask cat (w .target) (w .left)) where
+  module _ (mask : ℕ) (is : mask ≡ listedRights l (w .target) (w .left)) where
     mask-below : mask < 2 ^ suc (w .members)
     mask-below =
-        let e : suc (visible cat (w .target)) ≡ suc (w .members) = ap suc (sym (f .sound .members)) in
+        let e : suc (widthOf l (w .target)) ≡ suc (w .members) = ap suc (sym (f .sound .members)) in
         subst (λ (k : ℕ). mask < 2 ^ k) e
-        (subst (λ (m : ℕ). m < 2 ^ suc (visible cat (w .target))) (sym is) (mask-lt cat (w .target) (w .left)))
+        (subst (λ (m : ℕ). m < 2 ^ suc (widthOf l (w .target))) (sym is) (mask-lt (l .view (w .target)) (l .rights (w .target)) (w .left)))
 
-    cell-mask : cellOf cat w ≡ entriesOfMask (w .target) (w .left) (w .members) mask
+    cell-mask : cellOf l w ≡ entriesOfMask (w .target) (w .left) (w .members) mask
     cell-mask =
-        entries-of-rights cat (w .target) (w .left)
+        entries-of-rights l (w .target) (w .left)
         ∙ ap₂ (entriesOfMask (w .target) (w .left)) (sym (f .sound .members)) (sym is)
 
-    cell-size : ones mask ≡ length (cellOf cat w)
+    cell-size : ones mask ≡ length (cellOf l w)
     cell-size = sym (ap length cell-mask ∙ entries-count (w .target) (w .left) (w .members) mask mask-below)
 
     size-le : ones mask ≤ rightBound
     size-le = omega (arith, ones-le (suc (w .members)) mask mask-below, f .sound .members, fresh-few)
 
-    pass-full : w .room < ones mask → w .room < length (cellOf cat w)
+    pass-full : w .room < ones mask → w .room < length (cellOf l w)
     pass-full h = omega (arith, cell-size)
 
     -- what the set's entries leave
     abbrev rest : List Entry
-    rest = written (w .budget - 1) (w .room - ones mask) (drop (w .place + 1) (cellsOf cat))
+    rest = written (w .budget - 1) (w .room - ones mask) (drop (w .place + 1) (cells l))
 
     module _ (fits : ones mask ≤ w .room) where
-      written-here : written (w .budget) (w .room) (drop (w .place) (cellsOf cat)) ≡ cellOf cat w ++ rest
+      written-here : written (w .budget) (w .room) (drop (w .place) (cells l)) ≡ cellOf l w ++ rest
       written-here =
-          written-next (cellsOf cat) (w .place) (w .budget) (w .room) (ones mask) (cellOf cat w) cell-here (f .budget) cell-size fits
+          written-next (cells l) (w .place) (w .budget) (w .room) (ones mask) (cellOf l w) cell-here (f .budget) cell-size fits
 
-      pass-put : ahead cat (passedOn w mask) ≡ ahead cat w
+      pass-put : ahead l (passedOn w mask) ≡ ahead l w
       unfolding ahead
       pass-put =
-          ap (λ (l : List Entry). l ++ rest) (sym cell-mask) ∙ sym written-here ∙ sym (ahead-next cat w (f .pending))
+          ap (λ (es : List Entry). es ++ rest) (sym cell-mask) ∙ sym written-here ∙ sym (ahead-next l w (f .pending))
 
-      pass-reply : final cat (passedOn w mask) ≡ final cat w
+      pass-reply : final l (passedOn w mask) ≡ final l w
       unfolding final
       pass-reply =
-          let p = passed-next (cellsOf cat) (w .place) (w .budget) (w .room) (ones mask) (cellOf cat w) cell-here (f .budget) cell-size fits in
-          let l = ap length written-here ∙ length-append (cellOf cat w) rest in
+          let p = passed-next (cells l) (w .place) (w .budget) (w .room) (ones mask) (cellOf l w) cell-here (f .budget) cell-size fits in
+          let k = ap length written-here ∙ length-append (cellOf l w) rest in
           answers (omega arith) (omega arith) (omega (arith, cell-size))
 
-      pass-at : (after : List ℕ) → (0 < w .budget - 1 → Ready cat (w .target) (w .mode) after) → length after ≡ length words
-          → Passes cat w (At (passedOn w mask)) after
+      pass-at : (after : List ℕ) → (0 < w .budget - 1 → Ready l (w .target) (w .held) (w .own) after) → length after ≡ length words
+          → Passes l w (At (passedOn w mask)) after
       pass-at after ready same = (
         record {
           sound =
               record {
-                accepted = f .sound .accepted;
+                bounded = f .sound .bounded;
                 enough = omega (arith, f .sound .enough);
                 members = f .sound .members;
                 passed = omega (arith, f .sound .passed);
                 counted = omega (arith, f .sound .counted, size-le);
               };
           stands =
-              subst (StandsBefore cat (w .target) (w .left)) (sym (add-one (w .place)))
-              (stands-before cat (w .target) (w .left) (w .place) (f .stands));
+              subst (SetBefore l (w .target) (w .left)) (sym (add-one (w .place)))
+              (stands-before l (w .target) (w .left) (w .place) (f .stands));
           pending = mask-below;
           ready = ready;
         },
@@ -181,72 +186,73 @@ module _ (cat : List ℕ) (w : Walk) (words : List ℕ) (f : Fresh cat w words) 
         }
 
     -- what passing the set answers is right, if the words are ready wherever more sets can be passed
-    pub passes-by : (after : List ℕ) → (0 < w .budget - 1 → Ready cat (w .target) (w .mode) after) → length after ≡ length words → (r : Reached)
-        → r ≡ passedBy w mask → Passes cat w r after
+    pub passes-by : (after : List ℕ) → (0 < w .budget - 1 → Ready l (w .target) (w .held) (w .own) after) → length after ≡ length words → (r : Reached)
+        → r ≡ passedBy w mask → Passes l w r after
     unfolding passedBy
     passes-by after ready same r e = at (decLt (w .room) (ones mask))
       where
-        at : Dec (w .room < ones mask) → Passes cat w r after
-        at (yes h) = subst (λ (s : Reached). Passes cat w s after) (sym (e ∙ ifLt-yes _ h)) (pass-full h)
+        at : Dec (w .room < ones mask) → Passes l w r after
+        at (yes h) = subst (λ (s : Reached). Passes l w s after) (sym (e ∙ ifLt-yes _ h)) (pass-full h)
         at (no h) =
             let fits : ones mask ≤ w .room = omega arith in
-            subst (λ (s : Reached). Passes cat w s after) (sym (e ∙ ifLt-no Stop fits)) (pass-at fits after ready same)
+            subst (λ (s : Reached). Passes l w s after) (sym (e ∙ ifLt-no Stop fits)) (pass-at fits after ready same)
 
--- a walk whose set is passed, and nothing of it is pending
-module _ (cat : List ℕ) (w : Walk) (words : List ℕ) (g : Good cat w words) (nothing : w .pending ≡ 0) where
-  pub good-target : w .target < tables cat
-  good-target = g .stands .set .target
+-- a walk that differs only in its set, where nothing is pending
+module _ (l : Listing) (w : Walk) (nothing : w .pending ≡ 0) where
+  moved-same : (t x n : ℕ) (held : Held) (own : ℕ) → Same l w (movedTo w t x n held own)
+  unfolding final
+  moved-same t x n held own =
+      record { put = ahead-next l (movedTo w t x n held own) nothing ∙ sym (ahead-next l w nothing); reply = refl }
 
-  good-few : visible cat (w .target) ≤ columnBound
-  good-few = accepted-visible cat (g .sound .accepted) (w .target) good-target
-
-  -- what the set answers as its next is the next of its number
-  next-of : {r : SetOrNone} → nextOf (w .members) (membersOf (w .left)) ≡ r → nextOf (visible cat (w .target)) (w .left) ≡ r
-  next-of e =
-      let s = g .stands in
-      let l = chosen-lt cat (w .target) (w .left) (s .index) (s .set) in
-      ap₂ nextOf (sym (g .sound .members)) (sym (members-own (visible cat (w .target)) (w .left) good-few l)) ∙ e
-
-  -- a walk that differs only in its set
-  abbrev moved : ℕ → ℕ → ℕ → ℕ → Walk
-  moved t x n mode =
+  pub moved-fresh : (t x n : ℕ) (held : Held) (own : ℕ) (words after : List ℕ) → Sound l w words
+      → length after ≡ length words → 0 < w .budget → SetAt l t x (w .place) → n ≡ widthOf l t
+      → Fresh l (movedTo w t x n held own) after
+  moved-fresh t x n held own words after sound same some s e =
       record {
-        target = t;
-        left = x;
-        members = n;
-        mode = mode;
-        place = w .place;
-        budget = w .budget;
-        room = w .room;
-        passed = w .passed;
-        count = w .count;
-        pending = 0;
+        sound =
+            record {
+              bounded = sound .bounded;
+              enough = omega (arith, sound .enough);
+              members = e;
+              passed = sound .passed;
+              counted = sound .counted;
+            };
+        stands = s;
+        pending = nothing;
+        budget = some;
       }
 
-  moved-same : (t x n mode : ℕ) → Same cat w (moved t x n mode)
-  unfolding final
-  moved-same t x n mode = record { put = ahead-next cat (moved t x n mode) refl ∙ sym (ahead-next cat w nothing); reply = refl }
+  -- passing the set of the other is passing the set of the one, if it is the same set
+  pub moved-passes : (held : Held) (own : ℕ) (r : Reached) (words : List ℕ)
+      → Passes l (movedTo w (w .target) (w .left) (w .members) held own) r words → Passes l w r words
+  moved-passes held own (At v) words (g, s, k, h) =
+      let same = moved-same (w .target) (w .left) (w .members) held own in
+      (g, record { put = s .put ∙ same .put; reply = s .reply ∙ same .reply }, k, h)
+  moved-passes held own Stop words h = h
 
-  moved-after : (t x n mode : ℕ) (after : List ℕ) → 0 < w .budget → Stands cat t x (w .place) → n ≡ visible cat t
-      → Ready cat t mode after → length after ≡ length words → After cat w (moved t x n mode) after
-  moved-after t x n mode after some s e ready same =
+-- a walk whose set is passed, and nothing of it is pending
+module _ (l : Listing) (w : Walk) (words : List ℕ) (g : Good l w words) (nothing : w .pending ≡ 0) where
+  pub good-target : w .target < l .targets
+  good-target = g .stands .set .target
+
+  good-few : widthOf l (w .target) ≤ columnBound
+  good-few = g .sound .bounded .members (w .target) good-target
+
+  -- what the set answers as its next is the next of its number
+  next-of : {r : SetOrNone} → nextOf (w .members) (membersOf (w .left)) ≡ r → nextOf (widthOf l (w .target)) (w .left) ≡ r
+  next-of e =
+      let s = g .stands in
+      let lt = chosen-lt l (w .target) (w .left) (s .index) (s .set) in
+      ap₂ nextOf (sym (g .sound .members)) (sym (members-own (widthOf l (w .target)) (w .left) good-few lt)) ∙ e
+
+  moved-after : (t x n : ℕ) (held : Held) (own : ℕ) (after : List ℕ) → 0 < w .budget → SetAt l t x (w .place)
+      → n ≡ widthOf l t → Ready l t held own after → length after ≡ length words
+      → After l w (movedTo w t x n held own) after
+  moved-after t x n held own after some s e ready same =
       record {
-        fresh =
-            record {
-              sound =
-                  record {
-                    accepted = g .sound .accepted;
-                    enough = omega (arith, g .sound .enough);
-                    members = e;
-                    passed = g .sound .passed;
-                    counted = g .sound .counted;
-                  };
-              stands = s;
-              pending = refl;
-              budget = some;
-            };
+        fresh = moved-fresh l w nothing t x n held own words after (g .sound) same some s e;
         ready = ready;
-        same = moved-same t x n mode;
+        same = moved-same l w nothing t x n held own;
         budget = refl;
         place = refl;
         passed = refl;
@@ -254,84 +260,56 @@ module _ (cat : List ℕ) (w : Walk) (words : List ℕ) (g : Good cat w words) (
       }
 
   pub follow-within : (y : ColumnSet) → 0 < w .budget → nextOf (w .members) (membersOf (w .left)) ≡ Set y
-      → Follows cat w (At (moved (w .target) (y .bits) (w .members) (w .mode))) words
+      → Follows l w (At (movedTo w (w .target) (y .bits) (w .members) (w .held) (w .own))) words
   follow-within y some e =
-      moved-after (w .target) (y .bits) (w .members) (w .mode) words some
-      (next-within cat (w .target) (w .left) (w .place) (g .stands) good-few (y .bits)
-      (next-of e))
+      moved-after (w .target) (y .bits) (w .members) (w .held) (w .own) words some
+      (next-within l (w .target) (w .left) (w .place) (g .stands) good-few (y .bits) (next-of e))
       (g .sound .members) (g .ready some) refl
 
-  pub follow-target : (n mode t : ℕ) (after : List ℕ) → 0 < w .budget → nextOf (w .members) (membersOf (w .left)) ≡ Nothing
-      → t ≡ w .target + 1 → t < tables cat → n ≡ visible cat t → Ready cat t mode after → length after ≡ length words
-      → Follows cat w (At (moved t 0 n mode)) after
-  follow-target n mode t after some e q h v ready same =
-      moved-after t 0 n mode after some
-      (subst (λ (i : ℕ). Stands cat i 0 (w .place)) (sym (q ∙ add-one (w .target)))
-      (next-target cat (w .target) (w .left) (w .place) (g .stands) good-few
-      (next-of e) (omega arith)))
+  pub follow-target : (n : ℕ) (held : Held) (own t : ℕ) (after : List ℕ) → 0 < w .budget
+      → nextOf (w .members) (membersOf (w .left)) ≡ Nothing → t ≡ w .target + 1 → t < l .targets → n ≡ widthOf l t
+      → Ready l t held own after → length after ≡ length words → Follows l w (At (movedTo w t 0 n held own)) after
+  follow-target n held own t after some e q h v ready same =
+      moved-after t 0 n held own after some
+      (subst (λ (i : ℕ). SetAt l i 0 (w .place)) (sym (q ∙ add-one (w .target)))
+      (next-target l (w .target) (w .left) (w .place) (g .stands) good-few (next-of e) (omega arith)))
       v ready same
 
-  pub follow-none : (after : List ℕ) → nextOf (w .members) (membersOf (w .left)) ≡ Nothing → tables cat ≤ w .target + 1 → Follows cat w Stop after
+  pub follow-none : (after : List ℕ) → nextOf (w .members) (membersOf (w .left)) ≡ Nothing → l .targets ≤ w .target + 1 → Follows l w Stop after
   follow-none after e h =
-      next-none cat (w .target) (w .left) (w .place) (g .stands) good-few
+      next-none l (w .target) (w .left) (w .place) (g .stands) good-few
       (next-of e) (omega arith)
 
   -- going on by way of the next set
-  pub goes-full : (v : Walk) (mid after : List ℕ) → After cat w v mid → Passes cat v Stop after → Goes cat w Stop after
+  pub goes-full : (v : Walk) (mid after : List ℕ) → After l w v mid → Passes l v Stop after → Goes l w Stop after
   goes-full v mid after a h =
-      let s = fresh-full cat v mid (a .fresh) h in
+      let s = fresh-full l v mid (a .fresh) h in
       record {
         put = sym (a .same .put) ∙ s .put;
         reply = sym (a .same .reply) ∙ s .reply ∙ answers (a .place) (a .passed) (a .count);
       }
 
-  pub goes-at : (v u : Walk) (mid after : List ℕ) → After cat w v mid → Passes cat v (At u) after → Goes cat w (At u) after
+  pub goes-at : (v u : Walk) (mid after : List ℕ) → After l w v mid → Passes l v (At u) after → Goes l w (At u) after
   goes-at v u mid after a h = (
     h .0,
     record { put = h .1 .put ∙ a .same .put; reply = h .1 .reply ∙ a .same .reply },
     omega (arith, h .2, a .budget),
   )
 
-  pub goes : (v : Walk) (r : Reached) (mid after : List ℕ) → After cat w v mid → Passes cat v r after → Goes cat w r after
+  pub goes : (v : Walk) (r : Reached) (mid after : List ℕ) → After l w v mid → Passes l v r after → Goes l w r after
   goes v (At u) mid after a h = goes-at v u mid after a h
   goes v Stop mid after a h = goes-full v mid after a h
 
--- a walk with the words used in another way has the same before it
-module _ (cat : List ℕ) (w : Walk) (mode : ℕ) where
-  mode-same : Same cat (withMode w mode) w
-  unfolding ahead final
-  mode-same = record { put = refl; reply = refl }
-
-  pub mode-fresh : (words after : List ℕ) → length after ≡ length words → Fresh cat w words → Fresh cat (withMode w mode) after
-  mode-fresh words after same f =
-      record {
-        sound =
-            record {
-              accepted = f .sound .accepted;
-              enough = omega (arith, f .sound .enough);
-              members = f .sound .members;
-              passed = f .sound .passed;
-              counted = f .sound .counted;
-            };
-        stands = f .stands;
-        pending = f .pending;
-        budget = f .budget;
-      }
-
-  pub mode-passes : (r : Reached) (words : List ℕ) → Passes cat (withMode w mode) r words → Passes cat w r words
-  mode-passes (At v) words (g, s, l, h) =
-      (g, record { put = s .put ∙ sym (mode-same .put); reply = s .reply ∙ sym (mode-same .reply) }, l, h)
-  mode-passes Stop words h = h
-
 -- the first walk of a call
-pub first-walk : (cat words : List ℕ) (place budget room t i x n mode : ℕ) → Accepted cat → workBound ≤ length words
-    → 0 < budget → Found cat place t i → n ≡ visible cat t → x ≡ getD (inOrder n) i 0
-    → First cat place budget room
+pub first-walk : (l : Listing) (words : List ℕ) (place budget room t i x n : ℕ) (held : Held) (own : ℕ) → Bounded l
+    → workBound ≤ length words → 0 < budget → Found l place t i → n ≡ widthOf l t → x ≡ getD (inOrder n) i 0
+    → First l place budget room
     (record {
       target = t;
       left = x;
       members = n;
-      mode = mode;
+      held = held;
+      own = own;
       place = place;
       budget = budget;
       room = room;
@@ -339,19 +317,19 @@ pub first-walk : (cat words : List ℕ) (place budget room t i x n mode : ℕ) �
       count = 0;
       pending = 0;
     }) words
-first-walk cat words place budget room t i x n mode ok enough some f e l =
+first-walk l words place budget room t i x n held own bounded enough some f e q =
     record {
       fresh =
           record {
             sound =
                 record {
-                  accepted = ok;
+                  bounded = bounded;
                   enough = enough;
                   members = e;
                   passed = omega arith;
                   counted = omega arith;
                 };
-            stands = found-stands cat place t i x f (l ∙ ap (λ (k : ℕ). getD (inOrder k) i 0) e);
+            stands = found-stands l place t i x f (q ∙ ap (λ (k : ℕ). getD (inOrder k) i 0) e);
             pending = refl;
             budget = some;
           };

@@ -1,3 +1,3 @@
-pub mod Stands
+pub mod Places
 pub mod Meaning
 pub mod Walks

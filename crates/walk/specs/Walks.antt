@@ -3,32 +3,32 @@ use Prim.Native.Nat.{ℕ, _≤_, _<_}
 use mathlib.Core.Path.{_≡_}
 use mathlib.Core.List.{List, [], _∷_}
 use lib.ListN.{length, drop}
-use Rattle.model.specs.Target.{rightsOf}
-use Rattle.model.specs.Listing.{entriesOf, ordinary}
+use Rattle.model.specs.Listing.{Listing, cells, rightsOf, entriesOf}
 use Rattle.model.specs.Reply.{answered}
 use Rattle.model.specs.declared.Entry.{Entry}
+use Rattle.passing.specs.declared.Held.{Held}
 use Rattle.passing.specs.declared.Walk.{Walk}
 use Rattle.passing.specs.declared.Reached.{Reached}
 use Rattle.passing.specs.declared.Reached.the-variants.{At, Stop}
-use Rattle.rights.specs.Rights.{Ready}
-use Rattle.walk.specs.Stands.{Stands}
-use Rattle.walk.specs.Meaning.{cellsOf, ahead, final, Sound, Good}
+use Rattle.rights.specs.Ready.{Ready}
+use Rattle.walk.specs.Places.{SetAt}
+use Rattle.walk.specs.Meaning.{ahead, final, Sound, Good}
 
 -- a walk whose set stands at the place, and is still to be passed
-pub record Fresh (cat : List ℕ) (w : Walk) (words : List ℕ) : Type 0 where
-  pub sound : Sound cat w words
-  pub stands : Stands cat (w .target) (w .left) (w .place)
+pub record Fresh (l : Listing) (w : Walk) (words : List ℕ) : Type 0 where
+  pub sound : Sound l w words
+  pub stands : SetAt l (w .target) (w .left) (w .place)
   pub pending : w .pending ≡ 0
   pub budget : 0 < w .budget
 
 -- two walks have the same before them
-pub record Same (cat : List ℕ) (w v : Walk) : Type 0 where
-  pub put : ahead cat v ≡ ahead cat w
-  pub reply : final cat v ≡ final cat w
+pub record Same (l : Listing) (w v : Walk) : Type 0 where
+  pub put : ahead l v ≡ ahead l w
+  pub reply : final l v ≡ final l w
 
 -- the first walk of a call
-pub record First (cat : List ℕ) (place budget room : ℕ) (w : Walk) (words : List ℕ) : Type 0 where
-  pub fresh : Fresh cat w words
+pub record First (l : Listing) (place budget room : ℕ) (w : Walk) (words : List ℕ) : Type 0 where
+  pub fresh : Fresh l w words
   pub start : w .place ≡ place
   pub useful : w .budget ≡ budget
   pub free : w .room ≡ room
@@ -36,17 +36,18 @@ pub record First (cat : List ℕ) (place budget room : ℕ) (w : Walk) (words : 
   pub empty : w .count ≡ 0
 
 -- the entries of the set of a walk
-abbrev pub cellOf : List ℕ → Walk → List Entry
-cellOf cat w = entriesOf (ordinary cat) (w .target) (w .left) (rightsOf cat (w .target))
+abbrev pub cellOf : Listing → Walk → List Entry
+cellOf l w = entriesOf l (w .target) (w .left) (rightsOf l (w .target))
 
--- a walk with the words used in some way
-abbrev pub withMode : Walk → ℕ → Walk
-withMode w mode =
+-- the walk at another set, with what the words hold for its target and the target's rights
+abbrev pub movedTo : Walk → ℕ → ℕ → ℕ → Held → ℕ → Walk
+movedTo w target left members held own =
     record {
-      target = w .target;
-      left = w .left;
-      members = w .members;
-      mode = mode;
+      target = target;
+      left = left;
+      members = members;
+      held = held;
+      own = own;
       place = w .place;
       budget = w .budget;
       room = w .room;
@@ -56,32 +57,32 @@ withMode w mode =
     }
 
 -- a set is passed, or its entries do not fit
-abbrev pub Passes : List ℕ → Walk → Reached → List ℕ → Type 0
-Passes cat w (At v) words =
-    Good cat v words × Same cat w v × (v .budget < w .budget) × (length (cellOf cat w) ≤ w .room)
-Passes cat w Stop words = w .room < length (cellOf cat w)
+abbrev pub Passes : Listing → Walk → Reached → List ℕ → Type 0
+Passes l w (At v) words =
+    Good l v words × Same l w v × (v .budget < w .budget) × (length (cellOf l w) ≤ w .room)
+Passes l w Stop words = w .room < length (cellOf l w)
 
 -- a walk is at the set after that of another
-pub record After (cat : List ℕ) (w v : Walk) (words : List ℕ) : Type 0 where
-  pub fresh : Fresh cat v words
-  pub ready : Ready cat (v .target) (v .mode) words
-  pub same : Same cat w v
+pub record After (l : Listing) (w v : Walk) (words : List ℕ) : Type 0 where
+  pub fresh : Fresh l v words
+  pub ready : Ready l (v .target) (v .held) (v .own) words
+  pub same : Same l w v
   pub budget : v .budget ≡ w .budget
   pub place : v .place ≡ w .place
   pub passed : v .passed ≡ w .passed
   pub count : v .count ≡ w .count
 
 -- the walk is at the next set, or no set is left
-abbrev pub Follows : List ℕ → Walk → Reached → List ℕ → Type 0
-Follows cat w (At v) words = After cat w v words
-Follows cat w Stop words = drop (w .place) (cellsOf cat) ≡ []
+abbrev pub Follows : Listing → Walk → Reached → List ℕ → Type 0
+Follows l w (At v) words = After l w v words
+Follows l w Stop words = drop (w .place) (cells l) ≡ []
 
 -- nothing is ahead, and the answer is where the walk stands
-pub record Stopped (cat : List ℕ) (w : Walk) : Type 0 where
-  pub put : ahead cat w ≡ []
-  pub reply : final cat w ≡ answered (w .place ∷ w .passed ∷ w .count ∷ [])
+pub record Stopped (l : Listing) (w : Walk) : Type 0 where
+  pub put : ahead l w ≡ []
+  pub reply : final l w ≡ answered (w .place ∷ w .passed ∷ w .count ∷ [])
 
 -- the next set is passed, or the walk stops
-abbrev pub Goes : List ℕ → Walk → Reached → List ℕ → Type 0
-Goes cat w (At v) words = Good cat v words × Same cat w v × (v .budget < w .budget)
-Goes cat w Stop words = Stopped cat w
+abbrev pub Goes : Listing → Walk → Reached → List ℕ → Type 0
+Goes l w (At v) words = Good l v words × Same l w v × (v .budget < w .budget)
+Goes l w Stop words = Stopped l w

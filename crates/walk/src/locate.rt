@@ -8,11 +8,13 @@ ghost use Rattle.columns.specs.Order.{inOrder};
 ghost use Rattle.model.specs.Bounds.{workBound};
 ghost use Rattle.model.specs.Catalogue.{sets as setsOf};
 ghost use Rattle.model.specs.Check.{Accepted};
-ghost use Rattle.walk.specs.Stands.{Found};
+ghost use Rattle.model.specs.Listing.{ordinary};
+ghost use Rattle.walk.specs.Places.{Found};
 ghost use Rattle.walk.specs.Walks.{First};
 use bits::power;
 use columns::ColumnSet;
 use columns::SetOrNone;
+use passing::Held;
 use passing::Walk;
 
 // A target, and an index in the order of its sets.
@@ -25,7 +27,7 @@ pub struct Spot {
 fn find(cat: &[u8], place: u32) -> Spot
     requires { ⌜ Accepted (now cat) ⌝ }
     requires { ⌜ place < setsOf (now cat) ⌝ }
-    ensures { λ r. ⌜ Found (now (cat .entry)) place (r .target) (r .index) ⌝ }
+    ensures { λ r. ⌜ Found (ordinary (now (cat .entry))) place (r .target) (r .index) ⌝ }
 {
     let mut target: u32 = 0;
     let mut index = place;
@@ -59,7 +61,8 @@ pub fn first(cat: &[u8], place: u32, budget: u32, room: usize) -> Walk
     requires { ⌜ Accepted (now cat) ⌝ }
     requires { ⌜ place < setsOf (now cat) ⌝ }
     requires { ⌜ 0 < budget ⌝ }
-    ensures { λ r. ⌜ ((words : List ℕ) → workBound ≤ length words → First (now (cat .entry)) place budget room r words) ⌝ }
+    ensures { λ r. ⌜ ((words : List ℕ) → workBound ≤ length words
+        → First (ordinary (now (cat .entry))) place budget room r words) ⌝ }
 {
     let s = find(cat, place);
     let target = s.target;
@@ -69,7 +72,8 @@ pub fn first(cat: &[u8], place: u32, budget: u32, room: usize) -> Walk
         target: target,
         left: left,
         members: n,
-        mode: 0,
+        held: Held::Table,
+        own: 0,
         place: place,
         budget: budget,
         room: room,

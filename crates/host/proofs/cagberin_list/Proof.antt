@@ -51,7 +51,7 @@ use Rattle.model.specs.declared.ListAnswer.{ListAnswer}
 use Rattle.model.proofs.Entry as R
 use Rattle.model.proofs.ListAnswer as L
 use Rattle.model.proofs.ListAnswer.Laws as L′
-use Rattle.listing.specs.Steps.{seen}
+use Rattle.listing.specs.Seen.{seen}
 use Rattle.lent.proofs.Lent as lent
 use Rattle.listing.proofs.list.Symbol as list-def
 use Rattle.listing.proofs.list.Met as list-thm

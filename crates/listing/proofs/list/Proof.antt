@@ -67,14 +67,16 @@ use Rattle.model.proofs.ListAnswer.Laws as L′
 use Rattle.passing.specs.declared.Walk.{Walk}
 use Rattle.steps.specs.declared.Stepped.{Stepped}
 use Rattle.steps.specs.declared.Stepped.the-variants.{Put, Done}
-use Rattle.walk.specs.Meaning.{code as codeOf}
+use Rattle.model.specs.Check.{checkCode}
+use Rattle.model.specs.Listing.{ordinary, cells}
+use Rattle.model.specs.List.{listCode}
 use Rattle.steps.specs.Steps.{whole as wholeOf, values as valuesOf, Began, Went}
 use Rattle.passing.proofs.Walk as K
 use Rattle.passing.proofs.Walk.Laws as K′
 use Rattle.steps.proofs.Stepped as S
 use Rattle.steps.proofs.Stepped.Laws as S′
 use Rattle.listing.proofs.Steps.{Facts, runWith, begun, runWith-length, room-left, run-next, one-more, nearer}
-use Rattle.listing.proofs.Steps.{good, goes-on, lists}
+use Rattle.listing.proofs.Steps.{no-ground, good, goes-on, lists, none-before}
 use Rattle.lent.proofs.Lent as lent
 use Rattle.listing.proofs.Called.{Answers, stepVal, walkVals, Begin, Step, to-begin, begin-asks, begin-tells}
 use Rattle.listing.proofs.Called.{to-step, step-asks, step-tells}
@@ -146,13 +148,13 @@ module _ {M : Type 1} (𝓤 : URA M) (H : Heap 𝓤) (A : Atoms 𝓤) (W : Given
     (κ₀ κ₁ κ₂ : Lft) (q₀ q₁ q₂ : Share) (cat : RefT (List ℕ)) (place budget : ℕ)
     (b₁ o₁ : ℕ) (γ₁ : GName) (run : List Entry) (b₂ o₂ : ℕ) (γ₂ : GName) (words : List ℕ) where
   abbrev ground : ℕ
-  ground = codeOf (now cat) place budget (length run) (length words)
+  ground = listCode (now cat) place budget (length run) (length words)
 
   abbrev all : List Entry
-  all = wholeOf (now cat) place budget (length run)
+  all = wholeOf (ordinary (now cat)) place budget (length run)
 
   abbrev answers : List ℕ
-  answers = valuesOf (now cat) place budget (length run)
+  answers = valuesOf (ordinary (now cat)) place budget (length run)
 
   -- the machine values of the three slices
   abbrev catVal : Val
@@ -210,7 +212,7 @@ module _ {M : Type 1} (𝓤 : URA M) (H : Heap 𝓤) (A : Atoms 𝓤) (W : Given
 
   -- where the walk stands: what comes next, what is put, the words
   abbrev Known : Stepped → List Entry → List ℕ → Type 0
-  Known s put ws = Facts (now cat) ground all answers run words s put ws
+  Known s put ws = Facts (ordinary (now cat)) ground all answers run words s put ws
 
   abbrev State : Type 0
   State =
@@ -224,10 +226,10 @@ module _ {M : Type 1} (𝓤 : URA M) (H : Heap 𝓤) (A : Atoms 𝓤) (W : Given
 
   -- the run, with what is put
   abbrev nowRun : List Entry → List Entry
-  nowRun put = runWith (now cat) ground all answers run words put
+  nowRun put = runWith (ordinary (now cat)) ground all answers run words put
 
   run-same : (s : Stepped) (put : List Entry) (ws : List ℕ) → Known s put ws → length (nowRun put) ≡ length run
-  run-same s put ws known = runWith-length (now cat) ground all answers run words put s ws known
+  run-same s put ws known = runWith-length (ordinary (now cat)) ground all answers run words put s ws known
 
   exits : (a : ListAnswer) (put : List Entry) (ws : List ℕ) → Known (Done a) put ws
       → Is L.the-row a (answerVal a ∷ []) → place < 2 ^ 32 → budget < 2 ^ 32
@@ -239,7 +241,7 @@ module _ {M : Type 1} (𝓤 : URA M) (H : Heap 𝓤) (A : Atoms 𝓤) (W : Given
       suffices ! _ (ends-at 𝓤 H A list.ended stayed (list.clauses 𝓤 H A mem routine) W bound (answerVal a) a
       (tt, (tt, (tt, (nowRun put, (ws, tt)))))
       (tt, (tt, (tt, (run-same (Done a) put ws known, (known .same, tt)))))) $
-      says ! (lists (now cat) place budget run words put ws a known) $
+      says ! (lists (checkCode (now cat)) (ordinary (now cat)) place budget run words put ws a known) $
       nothing ! $ move ! (2 ∷ 0 ∷ []) $ join ! $ move ! (3 ∷ 0 ∷ []) $ join ! $ move ! (4 ∷ 0 ∷ []) $ join ! $
       frame ! $
       nothing ! $ move ! (1 ∷ 0 ∷ []) $ fjoin ! $ move ! (1 ∷ 0 ∷ []) $ fjoin ! $
@@ -268,7 +270,7 @@ module _ {M : Type 1} (𝓤 : URA M) (H : Heap 𝓤) (A : Atoms 𝓤) (W : Given
       (length run)) (gw : Room u32 (length words)) where
     module _ (e : Entry) (w : Walk) (put : List Entry) (ws : List ℕ) (known : Known (Put e w) put ws) where
       free : length put < length run
-      free = room-left (now cat) ground all answers run words put ws e w known
+      free = room-left (ordinary (now cat)) ground all answers run words put ws e w known
 
       inside : length put < length (nowRun put)
       inside = omega (arith, free, run-same (Put e w) put ws known)
@@ -397,14 +399,14 @@ module _ {M : Type 1} (𝓤 : URA M) (H : Heap 𝓤) (A : Atoms 𝓤) (W : Given
                 move ! (1 ∷ 0 ∷ []) $
                 elem-put ! R.the-row fullShare (nowRun put) (length put) e (entryVals e) b₁ o₁ (inside e w put ws known) $
                 rewrite ! 0 (λ (ys : List Entry). ‵ (runRow ys)) (run-next
-                (now cat) ground all answers run words put ws e w known) refl $
+                (ordinary (now cat)) ground all answers run words put ws e w known) refl $
                 assigns ! (bin ! (load ! (from ! (stop !)) (look ! 26 refl)) (lit ! tt)
                 (record { fits = after e w put ws known })) (from ! (stop !)) (store ! 26 refl (
                   tt,
                   record { fits = after e w put ws known },
                 )) $
                 rewrite ! 26 (λ (n : ℕ). ‵ (fat fullShare (tyInt w64) l₇ 0 (vint w64 n))) (one-more
-                (now cat) ground all answers run words put ws e w known) refl $
+                (ordinary (now cat)) ground all answers run words put ws e w known) refl $
                 assigns ! (addr ! (from ! (fld ! refl (hop ! (look-in ! 30 (sub ! 0 refl (whole !))) (stop !)))))
                 (from ! (stop !)) (init ! 8 refl (tt, tt)) $
                 assigns ! (agg ! (and-then ! (load ! (from ! (stop !)) (look ! 8 refl)) (and-then ! (load ! (from !
@@ -421,14 +423,16 @@ module _ {M : Type 1} (𝓤 : URA M) (H : Heap 𝓤) (A : Atoms 𝓤) (W : Given
                 move ! (6 ∷ 4 ∷ 0 ∷ 2 ∷ []) $ group ! 4 $
                 use1 W (raw (Step 𝓤 H A mem routine .pre (to-step 𝓤 H A mem routine W κ₀ q₀ cat b₂ o₂
                 (length words) ν δ ws w)))
-                (step-asks 𝓤 H A mem routine W κ₀ q₀ cat b₂ o₂ (length words) ν δ ws w (walk-is e w is) (good
-                (now cat) ground all answers run words put ws e w known)) $
+                (step-asks 𝓤 H A mem routine W κ₀ q₀ cat b₂ o₂ (length words) ν δ ws w (walk-is e w is)
+                (none-before (checkCode (now cat)) (cells (ordinary (now cat))) place budget (length run) (length words)
+                (no-ground (ordinary (now cat)) ground all answers run words put ws e w known))
+                (good (ordinary (now cat)) ground all answers run words put ws e w known)) $
                 -- [what `step` asks; cat; what is lent; the run; what shuts each; the locals]
                 calls-at-last ! fm (Step 𝓤 H A mem routine) known-step (to-step 𝓤 H A mem routine W κ₀ q₀ cat b₂ o₂
                 (length words) ν δ ws w)
                 (and-then ! (load ! (from ! (stop !)) (look ! 38 refl)) (and-then ! (load ! (from ! (stop !))
                 (look ! 22 refl)) (and-then ! (load ! (from ! (stop !)) (look ! 6 refl)) (no-more !)))) (λ v.
-                use1 W (later (some (λ (x : Stepped × List ℕ). given (Answers (λ s zs. Went (now cat) w ws s zs) ws v
+                use1 W (later (some (λ (x : Stepped × List ℕ). given (Answers (λ s zs. Went (ordinary (now cat)) w ws s zs) ws v
                 (x .0) (x .1)) (‵ (flft κ₀ q₀) ⊛ ‵ (flft (ν ∷ []) fullShare) ⊛ ‵ (finally u32 δ (x .1))))))
                 (step-tells 𝓤 H A mem routine W κ₀ q₀ cat b₂ o₂ (length words) ν δ ws w v) $ await ! tt $
                 pick ! (λ x. learn ! (λ told.
@@ -443,11 +447,11 @@ module _ {M : Type 1} (𝓤 : URA M) (H : Heap 𝓤) (A : Atoms 𝓤) (W : Given
                   x .0,
                   put ++ e ∷ [],
                   x .1,
-                  goes-on (now cat) ground all answers run words put ws e w known (x .0) (x .1)
+                  goes-on (ordinary (now cat)) ground all answers run words put ws e w known (x .0) (x .1)
                       (told .ensured) (told .same),
                   told .settled,
                 )
-                (nearer (now cat) ground all answers run words put ws e w known)))))))),
+                (nearer (ordinary (now cat)) ground all answers run words put ws e w known)))))))),
             ((λ z. absurd (zero-one z)), tt),
           )
 
@@ -531,7 +535,7 @@ module _ {M : Type 1} (𝓤 : URA M) (H : Heap 𝓤) (A : Atoms 𝓤) (W : Given
         (look ! 36 refl)) (and-then ! (load ! (from ! (stop !)) (look ! 34 refl)) (and-then ! (load ! (from !
         (stop !)) (look ! 18 refl)) (and-then ! (load ! (from ! (stop !)) (look ! 14 refl)) (no-more !))))))
         (λ v.
-        use1 W (later (some (λ (x : Stepped × List ℕ). given (Answers (λ s zs. Began (now cat) place budget
+        use1 W (later (some (λ (x : Stepped × List ℕ). given (Answers (λ s zs. Began (checkCode (now cat)) (ordinary (now cat)) place budget
         (length run) words s zs) words v (x .0) (x .1)) (‵ (flft κ₀ q₀) ⊛ ‵ (flft (ν ∷ []) fullShare) ⊛ ‵
         (finally u32 δ (x .1))))))
         (begin-tells 𝓤 H A mem routine W κ₀ q₀ cat b₂ o₂ (length words) ν δ words place budget (length run) v) $
@@ -549,7 +553,7 @@ module _ {M : Type 1} (𝓤 : URA M) (H : Heap 𝓤) (A : Atoms 𝓤) (W : Given
           x .0,
           [],
           x .1,
-          begun (now cat) ground all answers run words (x .0) (x .1) (told .ensured) (told .same),
+          begun (ordinary (now cat)) ground all answers run words (x .0) (x .1) (told .ensured) (told .same),
           told .settled,
         ))))))
         ))))))))))))))))))

@@ -70,7 +70,8 @@ use Rattle.model.proofs.Entry.Laws as R′
 use Rattle.model.proofs.ListAnswer as L
 use Rattle.model.proofs.ListAnswer.Laws as L′
 use Rattle.listing.specs.declared.Filled.{Filled}
-use Rattle.listing.specs.Steps.{Listed, seen}
+use Rattle.model.specs.List.{ListMeaning}
+use Rattle.listing.specs.Seen.{seen}
 use Rattle.listing.specs.Filled.{runBound, cap}
 use Rattle.listing.proofs.Filled as F
 use Rattle.listing.proofs.Filled.Laws as F′
@@ -176,7 +177,7 @@ module _ {M : Type 1} (𝓤 : URA M) (H : Heap 𝓤) (A : Atoms 𝓤) (W : Given
   k = cap room
 
   exits : (a : ListAnswer) (ys : List Entry) (ws : List ℕ) → length ys ≡ length (fresh room) → length ws ≡ length words
-      → Listed (now cat) (seen place budget (fresh room) words (listReply a) ys ws)
+      → ListMeaning (now cat) (seen place budget (fresh room) words (listReply a) ys ws)
       → Is F.the-row (whole-run a (ys ++ rest room)) (mach a (ys ++ rest room) ∷ []) → place < 2 ^ 32
       → budget < 2 ^ 32 → room < 2 ^ 64
       → ent 𝓤 (⋆ 𝓤 H A (‵ (finally u32 γ ws) ∷ ‵ (flft κ₁ q₁) ∷ ‵ (flft κ₀ q₀) ∷ ‵ catOwn ∷ [])) (Post (mach a
@@ -310,7 +311,7 @@ module _ {M : Type 1} (𝓤 : URA M) (H : Heap 𝓤) (A : Atoms 𝓤) (W : Given
         (stop !)) (look ! 10 refl)) (and-then ! (load ! (from ! (stop !)) (look ! 6 refl)) (no-more !))))))
         (λ v.
         use1 W (later (some (λ (x : ListAnswer × (List Entry × List ℕ)).
-        given (Hands (λ a ys ws. Listed (now cat) (seen place budget (fresh room) words (listReply a) ys ws)) (fresh room) words v (x .0) (x .1 .0) (x .1 .1))
+        given (Hands (λ a ys ws. ListMeaning (now cat) (seen place budget (fresh room) words (listReply a) ys ws)) (fresh room) words v (x .0) (x .1 .0) (x .1 .1))
         (‵ (flft κ₀ q₀) ⊛ ‵ (flft (ν ∷ []) fullShare) ⊛ ‵ (flft κ₁ q₁) ⊛ ‵ (finally R.the-row δ (x .1 .0)) ⊛ ‵
         (finally u32 γ (x .1 .1))))))
         (list-tells 𝓤 H A mem routine W κ₀ κ₁ q₀ q₁ cat place budget l₆ 0 δ (fresh room) k b o γ words ν v) $

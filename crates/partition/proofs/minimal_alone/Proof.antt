@@ -9,7 +9,7 @@ use Rattle.columns.specs.Bound.{columnBound}
 use Rattle.columns.specs.Set.{bit}
 use Rattle.model.specs.View.{In}
 use Rattle.table.specs.Words.{lackingOf}
-use Rattle.table.specs.Broken.{rightsMask}
+use Rattle.table.specs.Broken.{minimalMask}
 use Rattle.table.proofs.Bits.{bit-none}
 use Rattle.leaders.specs.Keys.{keyView}
 use Rattle.filled.proofs.Below.{below-more}
@@ -38,18 +38,18 @@ more keys n end x start kept k r f l g = record {
 
 module _ (keys : List ℕ) (n end own x : ℕ) (start wanted kept k : ℕ) (few : n ≤ columnBound) (small : x < 2 ^ n) (asked : own < 2 ^ suc n)
     (want : wanted ≡ lackingOf own x) (given : Given keys n end x wanted start) (f : Kept keys n end x start kept k) where
-  of : (r : ℕ) → ((a : ℕ) → (bit r a ≡ 1) ↔ ((bit start a ≡ 1) × Needs keys n end x n a)) → r ≡ rightsMask (keyView keys n end) own x
+  of : (r : ℕ) → ((a : ℕ) → (bit r a ≡ 1) ↔ ((bit start a ≡ 1) × Needs keys n end x n a)) → r ≡ minimalMask (keyView keys n end) own x
   of r = needed-rights keys n end x own few small asked start r (subst (λ (w : ℕ). Given keys n end x w start) want given)
 
   -- no right is left
-  ended : kept ≡ 0 → 0 ≡ rightsMask (keyView keys n end) own x
+  ended : kept ≡ 0 → 0 ≡ minimalMask (keyView keys n end) own x
   ended z = of 0 (λ a. (
     λ e. absurd (omega (arith, bit-none a)),
     λ g. sym (ap (λ (r : ℕ). bit r a) z) ∙ f .is a .1 (g .0, λ j l. g .1 j (omega (arith, f .within))),
   ))
 
   -- every member is passed
-  done : n ≤ k → kept ≡ rightsMask (keyView keys n end) own x
+  done : n ≤ k → kept ≡ minimalMask (keyView keys n end) own x
   done h = of kept (subst (λ (m : ℕ). (a : ℕ) → (bit kept a ≡ 1) ↔ ((bit start a ≡ 1) × Needs keys n end x m a)) same (f .is))
     where
       same : k ≡ n

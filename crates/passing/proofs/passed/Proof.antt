@@ -12,30 +12,30 @@ cast-if1 c = search needs
 
 returns : tie.Need-returns
 unfolding passedBy
-returns c = sym (ifLt-yes _ (c .if1 .taken))
+returns c = sym (ifLt-yes _ (omega arith))
 
-add-t7 : tie.Need-add-t7
-add-t7 c = search needs
+add-v : tie.Need-add-v
+add-v c = search needs
 
-sub-t8 : tie.Need-sub-t8
-sub-t8 c = search needs
+sub-v : tie.Need-sub-v
+sub-v c = search needs
 
-cast-t5 : tie.Need-cast-t5
-cast-t5 c = search needs
+cast-v : tie.Need-cast-v
+cast-v c = search needs
 
-sub-t9 : tie.Need-sub-t9
-sub-t9 c = search needs
+sub-v-2 : tie.Need-sub-v-2
+sub-v-2 c = search needs
 
-add-t10 : tie.Need-add-t10
-add-t10 c = search needs
+add-v-2 : tie.Need-add-v-2
+add-v-2 c = search needs
 
-add-t11 : tie.Need-add-t11
-add-t11 c = search needs
+add-v-3 : tie.Need-add-v-3
+add-v-3 c = search needs
 
 returns-2 : tie.Need-returns-2
 unfolding passedBy
-returns-2 c = sym (ifLt-no _ (c .before .before .before .before .if1 .left))
+returns-2 c = sym (ifLt-no _ (omega arith))
 
 pub passed-spec : {M : Type 1} → statement M
 passed-spec =
-    tie.close (tie.spec cast-if1 returns add-t7 sub-t8 cast-t5 sub-t9 add-t10 add-t11 returns-2)
+    tie.close (tie.spec cast-if1 returns add-v sub-v cast-v sub-v-2 add-v-2 add-v-3 returns-2)

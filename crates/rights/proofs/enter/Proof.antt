@@ -3,10 +3,11 @@ use Prim.Native.Nat.{ℕ, _^_, _<_}
 use mathlib.Core.Path.{sym, subst}
 use native.Mathlib.Omega.{arith}
 use denote.Ref.{now}
+use Rattle.model.specs.Listing.{ordinary}
 use Rattle.model.specs.Target.{view}
 use Rattle.model.proofs.Target.{view-equivalence}
 use Rattle.model.proofs.Check.{accepted-visible, accepted-rows}
-use Rattle.rights.proofs.Modes.{own-fits, own-ready, keyed-rows, alone-rights, ready-words}
+use Rattle.rights.proofs.Held.{own-fits, keyed-rows, alone-rights}
 use borrow.Author.Needs.{needs}
 use Rattle.rights.proofs.enter.Statement.{statement}
 use Rattle.rights.proofs.enter.Tie as tie
@@ -23,35 +24,49 @@ rows-requires c κs = search needs
 cast-end : tie.Need-cast-end
 cast-end c = search needs
 
-own-mask-requires : tie.Need-own-mask-requires
-own-mask-requires c κs = search needs
+own-rights-requires : tie.Need-own-rights-requires
+own-rights-requires c κs = search needs
 
 minimal-alone-requires : tie.Need-minimal-alone-requires
 minimal-alone-requires c κs =
     let s = c .before .before .before .before .before .before .before .before .before in
+    let cat = now (s .args .cat) in
     let e = c .before .before .before .before .before .before .visible .ensures in (
-      omega (arith, e, accepted-visible (now (s .args .cat)) (s .pre .0) (s .args .target) (s .pre .1 .0)),
+      omega (arith, e, accepted-visible cat (s .pre .0) (s .args .target) (s .pre .1 .0)),
       (
-        omega (arith, c .before .before .before .rows .ensures, accepted-rows (now (s .args .cat)) (s .pre .0) (s .args .target) (s .pre .1 .0)),
-        (subst (λ (n : ℕ). s .args .left < 2 ^ n) (sym e) (s .pre .1 .1 .0), own-fits _ _ e (c .before .before .own-mask .ensures)),
+        omega (arith, c .before .before .before .rows .ensures, accepted-rows cat (s .pre .0) (s .args .target) (s .pre .1 .0)),
+        (
+          subst (λ (n : ℕ). s .args .left < 2 ^ n) (sym e) (s .pre .1 .1 .0),
+          own-fits _ _ e (c .before .before .own-rights .ensures),
+        ),
       ),
     )
 
+filter-requires : tie.Need-filter-requires
+filter-requires c κs = search needs
+
 returns : tie.Need-returns
-returns c = (
-  λ one.
-      alone-rights _ _ _ _ (c .before .before .before .own-mask .ensures)
-      (keyed-rows _ _ (c .before .before .before .before .rows .ensures) (c .before .before .before .before .before .lay-all .ensures)) (c .minimal-alone .ensures),
-  λ more. absurd (more (c .before .before .if1 .taken)),
-)
+returns c =
+    let t = c .before .before .before .before in
+    let s = t .before .before .before .before .before .before .before in (
+      λ one.
+          alone-rights (ordinary (now (s .args .cat))) (s .args .target) (s .args .left) (t .own-rights .ensures)
+          (keyed-rows _ _ (t .before .rows .ensures) (t .before .before .lay-all .ensures)) (c .before .minimal-alone .ensures)
+          (c .filter .ensures),
+      λ more. absurd (more (c .before .before .before .if1 .taken)),
+    )
 
 fill-requires : tie.Need-fill-requires
 fill-requires c κs =
     let s = c .before .before .before .before .before .before .before .before .before .before in
+    let cat = now (s .args .cat) in
     let e = c .before .before .before .before .before .before .before .visible .ensures in (
-      omega (arith, e, accepted-visible (now (s .args .cat)) (s .pre .0) (s .args .target) (s .pre .1 .0)),
-      omega (arith, c .before .before .before .before .rows .ensures, accepted-rows (now (s .args .cat)) (s .pre .0) (s .args .target) (s .pre .1 .0)),
-      own-fits _ _ e (c .before .before .before .own-mask .ensures),
+      omega (arith, e, accepted-visible cat (s .pre .0) (s .args .target) (s .pre .1 .0)),
+      omega (
+        arith,
+        c .before .before .before .before .rows .ensures,
+        accepted-rows cat (s .pre .0) (s .args .target) (s .pre .1 .0),
+      ),
       s .pre .1 .1 .1,
     )
 
@@ -60,13 +75,18 @@ same-length c = search needs
 
 returns-2 : tie.Need-returns-2
 returns-2 c =
-    let s = c .before .before .before .before .before .before .before .before .before .before .before .before .before in (
+    let t = c .before .before .before .before .before .before in
+    let s = t .before .before .before .before .before .before .before in
+    let cat = now (s .args .cat) in (
       λ one. absurd (c .before .before .before .before .before .if1 .left one),
       λ more.
-          ready-words _ _ _ _
-          (own-ready _ _ (c .before .before .before .before .before .before .own-mask .ensures)
-          (c .before .before .fill .ensures (view (now (s .args .cat)) (s .args .target))
-          (keyed-rows _ _ (c .before .before .before .before .before .before .before .rows .ensures) (c .before .before .before .before .before .before .before .before .lay-all .ensures)) (view-equivalence (now (s .args .cat)) (s .args .target)))),
+          record {
+            rights = t .own-rights .ensures;
+            holding =
+                c .before .before .fill .ensures (view cat (s .args .target))
+                (keyed-rows _ _ (t .before .rows .ensures) (t .before .before .lay-all .ensures))
+                (view-equivalence cat (s .args .target)) _;
+          },
     )
 
 pub enter-spec : {M : Type 1} → statement M
@@ -77,8 +97,9 @@ enter-spec =
     lay-all-requires
     rows-requires
     cast-end
-    own-mask-requires
+    own-rights-requires
     minimal-alone-requires
+    filter-requires
     returns
     fill-requires
     same-length

@@ -1,6 +1,6 @@
 -- `rights::fill` meets its contract.
 use native.Mathlib.Omega.{arith}
-use Rattle.rights.proofs.Modes.{mask-low, narrow-wide, narrow-fits, ready-table, ready-narrow}
+use Rattle.rights.proofs.Held.{narrow-wide, narrow-fits, holds-table, holds-seeds}
 use borrow.Author.Needs.{needs}
 use Rattle.rights.proofs.fill.Statement.{statement}
 use Rattle.rights.proofs.fill.Tie as tie
@@ -15,10 +15,7 @@ sow-requires : tie.Need-sow-requires
 sow-requires c κs =
     let s = c .before .before .before .before in
     let p = s .pre in
-    (narrow-wide _ _ (p .3) (omega (arith, c .before .before .power .ensures)), p .0, p .1, narrow-fits _ _ (p .3) (p .0))
-
-add-result : tie.Need-add-result
-add-result c = let s = c .before .before .before .before .before .before .before in omega (arith, mask-low (s .args .n) (s .args .own) (s .pre .0) (s .pre .2))
+    (narrow-wide _ _ (p .2) (omega (arith, c .before .before .power .ensures)), p .0, p .1, narrow-fits _ _ (p .2) (p .0))
 
 same-length : tie.Need-same-length
 same-length c = search needs
@@ -27,9 +24,11 @@ returns : tie.Need-returns
 returns c =
     let s = c .before .before .before .before .before .before .before in
     let p = s .pre in
-    λ v keyed eq.
-    ready-narrow v (s .args .own) (s .args .n) _ (keyed .members) (narrow-wide _ _ (p .3) (omega (arith, c .before .before .before .before .before .power .ensures)))
-    (omega (arith, narrow-fits (s .args .n) _ (p .3) (p .0))) (c .before .before .sow .ensures .0 v keyed eq) (c .before .before .sow .ensures .1)
+    λ v keyed eq own.
+    holds-seeds v own (s .args .n) _ (keyed .members)
+    (narrow-wide _ _ (p .2) (omega (arith, c .before .before .before .before .before .power .ensures)))
+    (omega (arith, narrow-fits (s .args .n) _ (p .2) (p .0))) (c .before .before .sow .ensures .0 v keyed eq)
+    (c .before .before .sow .ensures .1)
 
 build-requires : tie.Need-build-requires
 build-requires c κs = search needs
@@ -40,9 +39,8 @@ same-length-2 c = search needs
 returns-2 : tie.Need-returns-2
 returns-2 c =
     let s = c .before .before .before .before .before .before .before in
-    let p = s .pre in
-    λ v keyed eq.
-    ready-table v (s .args .own) (s .args .n) _ (keyed .members) (mask-low (s .args .n) (s .args .own) (p .0) (p .2))
+    λ v keyed eq own.
+    holds-table v (s .args .n) _ (keyed .members)
     (omega (arith, c .before .before .before .before .before .power .ensures)) (c .before .before .build .ensures v keyed)
 
 pub fill-spec : {M : Type 1} → statement M
@@ -52,7 +50,6 @@ fill-spec =
     power-requires
     cast-if1
     sow-requires
-    add-result
     same-length
     returns
     build-requires

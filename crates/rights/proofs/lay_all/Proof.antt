@@ -3,7 +3,7 @@ use native.Mathlib.Omega.{arith}
 use denote.Ref.{now}
 use lib.Pow.{pow-pos}
 use Rattle.model.proofs.Check.{accepted-visible}
-use Rattle.rights.proofs.Modes.{laid-all}
+use Rattle.rights.proofs.Held.{laid-all}
 use borrow.Author.Needs.{needs}
 use Rattle.rights.proofs.lay_all.Statement.{statement}
 use Rattle.rights.proofs.lay_all.Tie as tie

@@ -1,7 +1,7 @@
 -- `rights::right_at` meets its contract.
 use mathlib.Core.Path.{refl}
 use Rattle.columns.proofs.Test.{is-if-eq, is-if-ne}
-use Rattle.rights.specs.Rights.{rightAt}
+use Rattle.model.specs.Rights.{rightAt}
 use Rattle.rights.proofs.right_at.Statement.{statement}
 use Rattle.rights.proofs.right_at.Tie as tie
 

@@ -1,7 +1,11 @@
 -- `steps::begin` meets its contract.
-use mathlib.Core.Path.{subst}
+use mathlib.Core.Path.{sym, subst, _∙_}
+use native.Mathlib.Omega.{arith}
 use denote.Ref.{now}
 use borrow.Author.Needs.{needs}
+use Rattle.model.specs.Listing.{ordinary}
+use Rattle.model.proofs.Listing.{cells-length}
+use Rattle.grounds.proofs.Sound.{check-code-le}
 use Rattle.walk.specs.Walks.{Passes}
 use Rattle.passing.specs.declared.Reached.{Reached}
 use Rattle.steps.proofs.Begins.{refusal-number, begin-refused, begin-few, begin-past, begin-spent, begin-end, begin-short, begin-walks}
@@ -15,16 +19,20 @@ refusal-requires : tie.Need-refusal-requires
 refusal-requires c κs = refusal-number _ (c .before .check-code .ensures) (c .if1 .taken)
 
 returns : tie.Need-returns
-returns c = begin-refused _ _ _ _ _ _ _ (c .before .before .check-code .ensures) (c .before .if1 .taken) (c .refusal .ensures)
+returns c =
+    begin-refused _ _ _ _ _ _ _ _ (c .before .before .check-code .ensures) (c .before .if1 .taken) (c .refusal .ensures)
+    (omega (arith, c .before .before .check-code .ensures, check-code-le (now (c .before .before .before .before .before .args .cat))))
 
 returns-2 : tie.Need-returns-2
-returns-2 c = begin-few _ _ _ _ _ (search needs) (search needs)
+returns-2 c = begin-few _ _ _ _ _ _ (search needs) (search needs)
 
 sets-requires : tie.Need-sets-requires
 sets-requires c κs = search needs
 
 returns-3 : tie.Need-returns-3
-returns-3 c = begin-past _ _ _ _ _ (search needs) (search needs) (search needs)
+returns-3 c =
+    let s = c .before .before .before .before .before .before .before in
+    begin-past _ _ _ _ _ _ (search needs) (search needs) (omega (arith, cells-length (now (s .args .cat))))
 
 zero-words-requires : tie.Need-zero-words-requires
 zero-words-requires c κs = search needs
@@ -33,7 +41,9 @@ same-length : tie.Need-same-length
 same-length c = search needs
 
 returns-4 : tie.Need-returns-4
-returns-4 c = begin-spent _ _ _ _ _ (search needs) (search needs) (search needs) _ (search needs) (search needs)
+returns-4 c =
+    let s = c .before .before .before .before .before .before .before .before .before .before .before .before in
+    begin-spent _ _ _ _ _ _ (search needs) (search needs) (omega (arith, cells-length (now (s .args .cat)))) _ (search needs) (search needs)
 
 zero-words-requires-2 : tie.Need-zero-words-requires-2
 zero-words-requires-2 c κs = search needs
@@ -42,15 +52,20 @@ same-length-2 : tie.Need-same-length-2
 same-length-2 c = search needs
 
 returns-5 : tie.Need-returns-5
-returns-5 c = begin-end _ _ _ _ _ (search needs) (search needs) (search needs) _ (search needs) (search needs)
+returns-5 c =
+    let s = c .before .before .before .before .before .before .before .before .before .before .before .before .before in
+    let e = cells-length (now (s .args .cat)) in
+    begin-end _ _ _ _ _ _ (search needs) (search needs) (omega arith) _ (search needs) (omega arith)
 
 first-requires : tie.Need-first-requires
 first-requires c κs = search needs
 
 pass-first-requires : tie.Need-pass-first-requires
 pass-first-requires c κs =
+    let f = c .before in
+    let none = sym (f .before .before .before .before .before .before .before .check-code .ensures) ∙ f .before .before .before .before .before .before .if1 .left in
     let s = c .before .before .before .before .before .before .before .before .before .before .before in
-    c .before .first .ensures (now (s .args .work)) (search needs) .fresh
+    (none, c .before .first .ensures (now (s .args .work)) (search needs) .fresh)
 
 enum-known-v : tie.Need-enum-known-v
 enum-known-v c = search needs
@@ -59,11 +74,12 @@ step-requires : tie.Need-step-requires
 step-requires c κs =
     let q = c .before .before .before .before .before .before in
     let f = q .before .before in
+    let none = sym (f .before .before .before .before .before .before .before .check-code .ensures) ∙ f .before .before .before .before .before .before .if1 .left in
     let s = f .before .before .before .before .before .before .before .before .before .before in
     let h =
-    subst (λ (r : Reached). Passes (now (s .args .cat)) (f .first .result) r (q .pass-first .last .1 .1 .0)) (c .before .before .v .given .1)
+    subst (λ (r : Reached). Passes (ordinary (now (s .args .cat))) (f .first .result) r (q .pass-first .last .1 .1 .0)) (c .before .before .v .given .1)
     (q .pass-first .ensures) in
-    h .0
+    (none, h .0)
 
 enum-told : tie.Need-enum-told
 enum-told c = search needs
@@ -79,12 +95,13 @@ returns-6 c =
     let p = c .before .before .before in
     let q = p .before .before .before .before .before .before in
     let f = q .before .before in
+    let none = sym (f .before .before .before .before .before .before .before .check-code .ensures) ∙ f .before .before .before .before .before .before .if1 .left in
     let s = f .before .before .before .before .before .before .before .before .before .before in
     let g = f .first .ensures (now (s .args .work)) (search needs) in
     let h =
-    subst (λ (r : Reached). Passes (now (s .args .cat)) (f .first .result) r (q .pass-first .last .1 .1 .0)) (p .before .before .v .given .1)
+    subst (λ (r : Reached). Passes (ordinary (now (s .args .cat))) (f .first .result) r (q .pass-first .last .1 .1 .0)) (p .before .before .v .given .1)
     (q .pass-first .ensures) in
-    begin-walks (now (s .args .cat)) (s .args .place) (s .args .budget) (s .args .room) (now (s .args .work)) (g .fresh .sound .accepted)
+    begin-walks _ (ordinary (now (s .args .cat))) (s .args .place) (s .args .budget) (s .args .room) (now (s .args .work)) none
     (g .fresh .sound .enough) (f .first .result) (now (s .args .work)) g (p .before .before .v .given .0 .0) (q .pass-first .last .1 .1 .0) h (search needs)
     (c .before .before .step .result) (c .before .before .step .last .1 .1 .0) (c .before .before .step .ensures)
 
@@ -96,12 +113,13 @@ returns-7 c =
     let p = c .before .before .before .before in
     let q = p .before .before .before .before in
     let f = q .before .before in
+    let none = sym (f .before .before .before .before .before .before .before .check-code .ensures) ∙ f .before .before .before .before .before .before .if1 .left in
     let s = f .before .before .before .before .before .before .before .before .before .before in
     let g = f .first .ensures (now (s .args .work)) (search needs) in
     let h =
-    subst (λ (r : Reached). Passes (now (s .args .cat)) (f .first .result) r (q .pass-first .last .1 .1 .0)) (p .enum-told .given .1)
+    subst (λ (r : Reached). Passes (ordinary (now (s .args .cat))) (f .first .result) r (q .pass-first .last .1 .1 .0)) (p .enum-told .given .1)
     (q .pass-first .ensures) in
-    begin-short (now (s .args .cat)) (s .args .place) (s .args .budget) (s .args .room) (now (s .args .work)) (g .fresh .sound .accepted)
+    begin-short _ (ordinary (now (s .args .cat))) (s .args .place) (s .args .budget) (s .args .room) (now (s .args .work)) none
     (g .fresh .sound .enough) (f .first .result) (now (s .args .work)) g (q .pass-first .last .1 .1 .0) h (search needs) _ (c .before .before .zero-words3 .ensures)
 
 pub begin-spec : {M : Type 1} → statement M

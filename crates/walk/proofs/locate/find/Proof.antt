@@ -6,19 +6,23 @@ use native.Mathlib.Omega.{arith}
 use denote.Ref.{now}
 use borrow.Author.Needs.{needs}
 use Rattle.model.specs.Catalogue.{tables}
+use Rattle.model.specs.Listing.{ordinary}
 use Rattle.model.proofs.Check.{accepted-tables, accepted-visible}
-use Rattle.walk.proofs.Stands.{Passing, passing-none, passing-on, passing-found}
+use Rattle.model.proofs.Listing.{cells-length}
+use Rattle.walk.proofs.Places.{Passing, passing-none, passing-on, passing-found}
 use Rattle.walk.proofs.locate.find.Statement.{statement}
 use Rattle.walk.proofs.locate.find.Tie as tie
 
 abbrev Inv-loop : tie.InvT-loop
-Inv-loop cat place target₀ index₀ target index = Passing cat place target index
+Inv-loop cat place target₀ index₀ target index = Passing (ordinary cat) place target index
 
 abbrev μ-loop : tie.MeasureT-loop
 μ-loop cat place target₀ index₀ target index = tables cat - target
 
 loop-holds : tie.Need-loop-holds Inv-loop μ-loop
-loop-holds c = passing-none _ _ (c .before .pre .1)
+loop-holds c =
+    let s = c .before in
+    passing-none _ _ (omega (arith, s .pre .1, cells-length (now (s .args .cat))))
 
 visible-requires : tie.Need-visible-requires Inv-loop μ-loop
 visible-requires c κs = search needs

@@ -3,7 +3,9 @@ use Prim.Native.Nat.{ℕ, _^_, _<_}
 use mathlib.Core.Path.{sym, subst}
 use native.Mathlib.Omega.{arith}
 use denote.Ref.{now}
+use Rattle.model.specs.Listing.{ordinary}
 use Rattle.model.proofs.Check.{accepted-visible}
+use Rattle.model.proofs.Rights.{ordinary-bounded}
 use Rattle.walk.proofs.Walks.{first-walk}
 use borrow.Author.Needs.{needs}
 use Rattle.walk.proofs.locate.first.Statement.{statement}
@@ -27,8 +29,10 @@ returns : tie.Need-returns
 returns c =
     let v = c .before in
     let s = v .before .before .before in
-    λ words enough. first-walk (now (s .args .cat)) words _ _ _ _ _ _ _ _ (s .pre .0) enough (s .pre .1 .1) (v .before .find .ensures) (v .visible .ensures)
-    (c .set-at .ensures)
+    let cat = now (s .args .cat) in
+    λ words enough.
+    first-walk (ordinary cat) words _ _ _ _ _ _ _ _ _ (ordinary-bounded cat (s .pre .0)) enough (s .pre .1 .1)
+    (v .before .find .ensures) (v .visible .ensures) (c .set-at .ensures)
 
 pub first-spec : {M : Type 1} → statement M
 first-spec = tie.close (tie.spec find-requires visible-requires set-at-requires returns)

@@ -1,4 +1,4 @@
--- `rights::own_mask` meets its contract.
+-- `rights::own_rights` meets its contract.
 use Prim.Native.Nat.{ℕ, suc, _+_, _-_, _^_, _≤_}
 use mathlib.Core.Path.{_≡_, ap, ap₂, _∙_}
 use mathlib.Core.List.{List}
@@ -10,8 +10,8 @@ use borrow.Author.Needs.{needs}
 use Rattle.model.specs.Catalogue.{visible, inherited}
 use Rattle.model.proofs.Check.{accepted-visible}
 use Rattle.model.proofs.Rights.{inherited-own}
-use Rattle.rights.proofs.own_mask.Statement.{statement}
-use Rattle.rights.proofs.own_mask.Tie as tie
+use Rattle.rights.proofs.own_rights.Statement.{statement}
+use Rattle.rights.proofs.own_rights.Tie as tie
 
 own-le : (b : List ℕ) (t e p q i : ℕ) → e ≡ visible b t + 1 → p ≡ 2 ^ e → i ≡ inherited b t → q ≡ 2 ^ i → q ≤ p
 own-le b t e p q i u v w z = let l : i ≤ e = omega (arith, inherited-own b t) in omega (arith, pow-mono l)
@@ -56,8 +56,8 @@ returns c =
     is-own _ _ _ _ _ _ (ap (λ (n : ℕ). n + 1) (c .before .before .before .visible .ensures)) (c .before .before .power .ensures)
     (c .before .inherited .ensures) (c .power2 .ensures)
 
-pub own-mask-spec : {M : Type 1} → statement M
-own-mask-spec =
+pub own-rights-spec : {M : Type 1} → statement M
+own-rights-spec =
     tie.close
     (tie.spec
     visible-requires

@@ -2,13 +2,14 @@
 use Prim.Native.Nat.{ℕ, suc, _-_, _^_, _≤_, _<_}
 use Rattle.columns.specs.Bound.{columnBound}
 use Rattle.model.specs.Entry.{entry}
-use Rattle.rights.specs.Rights.{rightAt, lowest}
+use Rattle.model.specs.Rights.{rightAt}
+use Rattle.rights.specs.Rights.{lowest}
 use Rattle.passing.specs.declared.Walk.{Walk}
 use Rattle.steps.specs.declared.Stepped.{Stepped}
 use Rattle.steps.specs.declared.Stepped.the-variants.{Put}
 
 -- what is put fits a record, which has 8 bits for the target and the right side and 16 for the left, and some right is pending
-pub record Puts (w : Walk) : Type 0 where
+pub record Puttable (w : Walk) : Type 0 where
   pub target : w .target < 2 ^ 8
   pub left : w .left < 2 ^ 16
   pub members : w .members ≤ columnBound
@@ -23,7 +24,8 @@ putFrom w =
       target = w .target;
       left = w .left;
       members = w .members;
-      mode = w .mode;
+      held = w .held;
+      own = w .own;
       place = w .place;
       budget = w .budget;
       room = w .room;

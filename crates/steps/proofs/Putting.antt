@@ -10,14 +10,15 @@ use Rattle.columns.proofs.Bits.{bit-power-le}
 use Rattle.columns.proofs.Test.{ifEq-yes, ifEq-no}
 use Rattle.model.specs.Bounds.{row}
 use Rattle.model.specs.Entry.{entry}
-use Rattle.rights.specs.Rights.{rightAt, entriesOfMask, lowest}
+use Rattle.model.specs.Rights.{rightAt}
+use Rattle.rights.specs.Rights.{entriesOfMask, lowest}
 use Rattle.rights.proofs.Mask.{entries-lowest, lowest-le, lowest-bit}
 use Rattle.passing.specs.declared.Walk.{Walk}
-use Rattle.steps.specs.Puts.{Puts, putFrom}
+use Rattle.steps.specs.Putting.{Puttable, putFrom}
 use Rattle.steps.specs.declared.Stepped.the-variants.{Put}
 
 -- what is pending is put, the lowest right first
-module _ (w : Walk) (p : Puts w) where
+module _ (w : Walk) (p : Puttable w) where
   put-word : w .pending < 2 ^ 32
   put-word =
       let l : 2 ^ suc (w .members) ≤ 2 ^ suc columnBound = pow-mono (suc-le-suc (p .members)) in
@@ -46,7 +47,8 @@ module _ (w : Walk) (p : Puts w) where
         target = w .target;
         left = w .left;
         members = w .members;
-        mode = w .mode;
+        held = w .held;
+        own = w .own;
         place = w .place;
         budget = w .budget;
         room = w .room;
