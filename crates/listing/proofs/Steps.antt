@@ -7,7 +7,6 @@ use mathlib.Core.List.{List, [], _∷_, _++_, append-nil, append-assoc}
 use lib.ListN.{length, drop, set, length-append, length-drop}
 use Rattle.columns.proofs.Test.{ifEq-yes, ifEq-no}
 use Rattle.model.specs.Calls.{runAfter}
-use Rattle.model.proofs.Grounds.{orElse-left}
 use Rattle.model.specs.Reply.{replyOf, listReply}
 use Rattle.model.specs.declared.Entry.{Entry}
 use Rattle.model.specs.declared.ListAnswer.{ListAnswer}
@@ -21,11 +20,6 @@ use Rattle.steps.specs.Steps.{due, toPut, replyTo, WordsBegun, Begins, Went, wh
 use Rattle.listing.specs.Seen.{seen}
 use Rattle.steps.proofs.Stepping.{kept-after}
 use Rattle.listing.proofs.Lists.{set-next}
-
--- where there is no ground against a call, none comes before its own
-pub none-before : {A : Type 0} (before : ℕ) (cs : List (List A)) (p g r w : ℕ) → codeAfter before cs p g r w ≡ 0 → before ≡ 0
-unfolding codeAfter
-none-before before cs p g r w e = orElse-left before _ e
 
 module _ (l : Listing) (code : ℕ) (es : List Entry) (vs : List ℕ) (run : List Entry) (words : List ℕ) where
   -- where the walk stands: what comes next, what is put, and the words

@@ -6,6 +6,8 @@ use mathlib.Core.Path.{_≡_, sym, subst}
 use mathlib.Core.Logic.{_↔_}
 use mathlib.Core.List.{List, map, List·Memᴰ}
 use lib.ListN.{length}
+use Rattle.columns.proofs.Test.{ifEq-yes}
+use Rattle.model.specs.Refusal.{orElse}
 use Rattle.model.specs.Check.{checkCode, Accepted}
 use Rattle.model.specs.Entry.{Ordered, Once}
 use Rattle.model.specs.Listing.{Listing, Bounded, Stands, ordinary, cells, countAll}
@@ -13,7 +15,7 @@ use Rattle.model.specs.Calls.{flat, Seen, Obeys, callCode}
 use Rattle.model.specs.Demand.{Linked, Every, AllObey, placeHeld, joined, Demand3, Complete}
 use Rattle.model.specs.List.{codeAfter, CallMeaning, ListMeaning}
 use Rattle.model.specs.declared.Entry.{Entry}
-use Rattle.model.proofs.Grounds.{orElse-next}
+use Rattle.model.proofs.Grounds.{orElse-left}
 use Rattle.model.proofs.Demand.{demand3, every-map}
 use Rattle.model.proofs.Obedient.{Input, inputOf, obedient, reached}
 use Rattle.model.proofs.Listing.{stands-is, full-ordered, full-once, full-count}
@@ -22,8 +24,13 @@ use Rattle.model.proofs.Rights.{ordinary-bounded}
 -- where no ground comes before, the first ground against a call is one of the call's own
 pub after-none : {A : Type 0} (before : ℕ) → before ≡ 0 → (cs : List (List A)) (p g r w : ℕ)
     → codeAfter before cs p g r w ≡ callCode cs p g r w
+unfolding codeAfter orElse
+after-none before none cs p g r w = ifEq-yes _ none
+
+-- and where there is no ground, none comes before
+pub none-before : {A : Type 0} (before : ℕ) (cs : List (List A)) (p g r w : ℕ) → codeAfter before cs p g r w ≡ 0 → before ≡ 0
 unfolding codeAfter
-after-none before none cs p g r w = orElse-next _ none
+none-before before cs p g r w e = orElse-left before _ e
 
 module _ (before : ℕ) (none : before ≡ 0) (l : Listing) where
   -- so what is said of calls on a listing is said of calls on its cells

@@ -70,13 +70,14 @@ use Rattle.steps.specs.declared.Stepped.the-variants.{Put, Done}
 use Rattle.model.specs.Check.{checkCode}
 use Rattle.model.specs.Listing.{ordinary, cells}
 use Rattle.model.specs.List.{listCode}
+use Rattle.model.proofs.Complete.{none-before}
 use Rattle.steps.specs.Steps.{whole as wholeOf, values as valuesOf, Began, Went}
 use Rattle.passing.proofs.Walk as K
 use Rattle.passing.proofs.Walk.Laws as K′
 use Rattle.steps.proofs.Stepped as S
 use Rattle.steps.proofs.Stepped.Laws as S′
 use Rattle.listing.proofs.Steps.{Facts, runWith, begun, runWith-length, room-left, run-next, one-more, nearer}
-use Rattle.listing.proofs.Steps.{no-ground, good, goes-on, lists, none-before}
+use Rattle.listing.proofs.Steps.{no-ground, good, goes-on, lists}
 use Rattle.lent.proofs.Lent as lent
 use Rattle.listing.proofs.Called.{Answers, stepVal, walkVals, Begin, Step, to-begin, begin-asks, begin-tells}
 use Rattle.listing.proofs.Called.{to-step, step-asks, step-tells}
