@@ -11,9 +11,9 @@ use Rattle.columns.proofs.Test.{ifEq-yes, ifEq-no, ifLt-no}
 use Rattle.model.specs.Bounds.{row}
 use Rattle.model.specs.Catalogue.{tables, visible, inherited}
 use Rattle.model.specs.Check.{checkCode}
-use Rattle.model.specs.Refusal.{number, orElse}
+use Rattle.model.specs.Refusal.{number, lastRefusal}
 use Rattle.model.specs.declared.Refusal.{Refusal}
-use Rattle.model.specs.declared.Refusal.the-variants.{TooFewWords, UnknownRight}
+use Rattle.model.specs.declared.Refusal.the-variants.{FileTooShort, TooFewWords, UnknownRight}
 use Rattle.model.specs.Reply.{refused, answered, replyOf, wordsAfter}
 use Rattle.model.specs.Question.{targetCode, leftSideCode, rightSideCode, wordsCode, questionCode, askMeaning, PairMeaning}
 use Rattle.model.specs.View.{Breaks, holds}
@@ -36,7 +36,8 @@ module _ (b : List ℕ) (t x a w : ℕ) where
       (orElse-le (ifEq-le _ _ (lit≤ tt) (ifLt-le _ _ (lit≤ tt) (ifLt-le _ _ (lit≤ tt) (lit≤ tt))))
       (ifLt-le _ _ (lit≤ tt) (lit≤ tt)))))
 
-  pub refused-number : {code : ℕ} → code ≡ questionCode b t x a w → (code ≡ 0 → ⊥) → (1 ≤ code) × (code ≤ 16)
+  pub refused-number : {code : ℕ} → code ≡ questionCode b t x a w → (code ≡ 0 → ⊥)
+      → (number FileTooShort ≤ code) × (code ≤ lastRefusal)
   refused-number e n = (omega arith, omega (arith, question-le))
 
   -- where there is no ground, the question is posed as it must be

@@ -1,18 +1,19 @@
 // Not for callers: the refusals of a question: those of the check, then 8 to 11, by number. A ground's code is the refusal's number, or 0 where
 // there is none.
-// Relies on `grounds` for the check's grounds and on `layout` for what stands where. Called by `dependency`.
+// Relies on `grounds` for the check's grounds, on `layout` for what stands where and on `refusals` for the numbers.
+// Called by `dependency`.
 ghost use mathlib.Core.Path.{_≡_};
 ghost use Rattle.model.specs.Question.{targetCode, leftSideCode, rightSideCode, wordsCode, questionCode};
-use grounds::TOO_FEW_WORDS;
-use grounds::UNKNOWN_COLUMN;
-use grounds::UNKNOWN_RIGHT;
-use grounds::UNKNOWN_TABLE;
 use grounds::check_code;
 use layout::inherited;
 use layout::tables;
 use layout::visible;
 use model::ROW;
 use model::WORK_BOUND;
+use refusals::TOO_FEW_WORDS;
+use refusals::UNKNOWN_COLUMN;
+use refusals::UNKNOWN_RIGHT;
+use refusals::UNKNOWN_TABLE;
 
 // The bits of a left side, as a number of the code.
 const LEFT_BITS: u32 = 32;
