@@ -14,11 +14,12 @@ use Rattle.model.specs.Check.{checkCode}
 use Rattle.model.specs.Refusal.{number, lastRefusal}
 use Rattle.model.specs.declared.Refusal.{Refusal}
 use Rattle.model.specs.declared.Refusal.the-variants.{FileTooShort, TooFewWords, UnknownRight}
-use Rattle.model.specs.Reply.{refused, answered, replyOf, wordsAfter}
+use Rattle.model.specs.Reply.{refused, answered, wordsAfter}
 use Rattle.model.specs.Question.{targetCode, leftSideCode, rightSideCode, wordsCode, questionCode, askMeaning, PairMeaning}
 use Rattle.model.specs.View.{Breaks, holds}
 use Rattle.model.specs.Target.{view}
 use Rattle.model.proofs.Grounds.{orElse-left, orElse-right, ifLt-passes, ifLt-fails, ifEq-le, ifLt-le, orElse-le}
+use Rattle.model.proofs.Grounds.{reply-refused, reply-answered}
 use Rattle.model.proofs.Target.{view-equivalence}
 use Rattle.model.proofs.View.{true-holds, no-breaks-holds, breaks-holds-false}
 use Rattle.grounds.proofs.Sound.{check-code-le}
@@ -66,19 +67,10 @@ module _ (b : List ℕ) (t x a w : ℕ) where
   question-posed e z = posed (sym e ∙ z)
 
   -- what is replied
-  pub reply-refused : {code : ℕ} (values : List ℕ) (r : Refusal) → code ≡ questionCode b t x a w → (code ≡ 0 → ⊥) → number r ≡ code
-      → refused (number r) ≡ replyOf (questionCode b t x a w) values
-  unfolding replyOf
-  reply-refused values r e n f = ap refused (f ∙ e) ∙ sym (ifEq-no (answered values) (λ z. n (e ∙ z)))
-
-  reply-answered : (values : List ℕ) → questionCode b t x a w ≡ 0 → answered values ≡ replyOf (questionCode b t x a w) values
-  unfolding replyOf
-  reply-answered values z = sym (ifEq-yes (refused (questionCode b t x a w)) z)
-
   pub ask-refused : {code : ℕ} (r : Refusal) → code ≡ questionCode b t x a w → (code ≡ 0 → ⊥) → number r ≡ code
       → refused (number r) ≡ askMeaning b t x a w
   unfolding askMeaning
-  ask-refused r e n f = reply-refused _ r e n f
+  ask-refused r e n f = reply-refused _ (f ∙ e) (λ z. n (sym f ∙ z))
 
   pub ask-meant : questionCode b t x a w ≡ 0 → answered (pick (holds (view b t) x a) 1 0 ∷ []) ≡ askMeaning b t x a w
   unfolding askMeaning

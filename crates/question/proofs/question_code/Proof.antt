@@ -1,8 +1,8 @@
 -- `dependency::question_code` meets its contract: the first code that is not 0.
 use Prim.Native.Nat.{ℕ}
 use mathlib.Core.Path.{_≡_, sym, _∙_}
-use Rattle.grounds.proofs.First.{is-this, is-next}
 use Rattle.model.specs.Refusal.{orElse}
+use Rattle.model.proofs.Grounds.{is-this, is-next}
 use Rattle.model.specs.Question.{questionCode}
 use borrow.Author.Needs.{needs}
 use Rattle.question.proofs.question_code.Statement.{statement}
