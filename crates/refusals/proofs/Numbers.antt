@@ -1,6 +1,6 @@
 -- A refusal's number is 1 to the last one's, and a number in that range that no later refusal has is the first one's.
 use Prim.Native.Nat.{ℕ, zero, suc, _≤_}
-use mathlib.Core.Path.{_≡_}
+use mathlib.Core.Path.{_≡_, sym, ap}
 use native.Mathlib.Omega.{arith}
 use lib.Dec.{lit≤}
 use Rattle.model.specs.Refusal.{number, lastRefusal}
@@ -9,6 +9,10 @@ use Rattle.model.specs.declared.Refusal.the-variants.{FileTooShort, BadTrailer,
 use Rattle.model.specs.declared.Refusal.the-variants.{BadParentTable, TooManyVisible, BadParentRow, UnknownTable}
 use Rattle.model.specs.declared.Refusal.the-variants.{UnknownColumn, UnknownRight, TooFewWords, PastTheEnd}
 use Rattle.model.specs.declared.Refusal.the-variants.{RunTooShort, NoList, BadEntry, OutputTooShort}
+
+-- the same refusal, the same number
+pub same-number : {r s : Refusal} → r ≡ s → number s ≡ number r
+same-number e = ap number (sym e)
 
 pub number-range : (r : Refusal) → (1 ≤ number r) × (number r ≤ lastRefusal)
 number-range FileTooShort = (lit≤ tt, lit≤ tt)
