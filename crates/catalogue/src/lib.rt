@@ -1,14 +1,14 @@
 // The check of a catalogue: the public call that says whether bytes are one.
-// Relies on `grounds`, where each ground of the refusals 1 to 7 has a function. Called by hosts and programs; the other public calls check first
-// by themselves.
+// Relies on `grounds`, where each ground of the refusals 1 to 7 has a function, and on `refusals` for the refusal that
+// has a number. Called by hosts and programs; the other public calls check first by themselves.
 ghost use mathlib.Core.Path.{_≡_};
 ghost use Rattle.model.specs.Reply.{checkReply};
 ghost use Rattle.model.specs.Check.{checkMeaning};
 use grounds::check_code;
-use grounds::refusal;
 use layout::sets;
 use layout::tables;
 use model::CheckAnswer;
+use refusals::refusal;
 
 // The check: how many tables, and how many sets over all targets; or why the bytes are no catalogue.
 pub fn check(b: &[u8]) -> CheckAnswer

@@ -11,87 +11,87 @@ use Rattle.columns.proofs.Test.{ifEq-yes, ifEq-no, ifLt-no}
 use Rattle.model.specs.Bounds.{row}
 use Rattle.model.specs.Catalogue.{tables, visible, inherited}
 use Rattle.model.specs.Check.{checkCode}
-use Rattle.model.specs.Refusal.{number, orElse}
+use Rattle.model.specs.Refusal.{number, lastRefusal}
 use Rattle.model.specs.declared.Refusal.{Refusal}
-use Rattle.model.specs.declared.Refusal.the-variants.{TooFewWords, UnknownRight}
-use Rattle.model.specs.Reply.{refused, answered, replyOf, wordsAfter}
-use Rattle.model.specs.Question.{targetCode, leftSideCode, rightSideCode, wordsCode, questionCode, askMeaning, PairMeaning}
+use Rattle.model.specs.declared.Refusal.the-variants.{FileTooShort, TooFewWords, UnknownRight}
+use Rattle.model.specs.Reply.{refused, answered, wordsAfter}
+use Rattle.model.specs.Question.{targetCode, leftSideCode, rightSideCode, sidesCode, wordsCode}
+use Rattle.model.specs.Question.{questionCode, askMeaning, PairMeaning}
 use Rattle.model.specs.View.{Breaks, holds}
 use Rattle.model.specs.Target.{view}
-use Rattle.model.proofs.Grounds.{orElse-left, orElse-right, ifLt-passes, ifLt-fails, ifEq-le, ifLt-le, orElse-le}
+use Rattle.model.proofs.Grounds.{orElse-left, orElse-both, ifLt-passes, ifLt-fails, ifEq-le, ifLt-le, orElse-le}
+use Rattle.model.proofs.Grounds.{reply-refused, reply-answered}
 use Rattle.model.proofs.Target.{view-equivalence}
 use Rattle.model.proofs.View.{true-holds, no-breaks-holds, breaks-holds-false}
 use Rattle.grounds.proofs.Sound.{check-code-le}
 use Rattle.dependency.specs.Posed.{Posed}
 
-module _ (b : List ℕ) (t x a w : ℕ) where
+module _ (cat : List ℕ) (target left right words : ℕ) where
   -- a question's code is 0 or the number of one of its refusals, of which the last is for too few words
-  pub question-le : questionCode b t x a w ≤ number TooFewWords
-  unfolding questionCode targetCode leftSideCode rightSideCode wordsCode
+  pub question-le : questionCode cat target left right words ≤ number TooFewWords
+  unfolding questionCode sidesCode targetCode leftSideCode rightSideCode wordsCode
   question-le =
-      let c = check-code-le b in
+      let c = check-code-le cat in
       orElse-le (omega arith)
+      (orElse-le
       (orElse-le (ifLt-le _ _ (lit≤ tt) (lit≤ tt))
       (orElse-le (ifLt-le _ _ (lit≤ tt) (lit≤ tt))
-      (orElse-le (ifEq-le _ _ (lit≤ tt) (ifLt-le _ _ (lit≤ tt) (ifLt-le _ _ (lit≤ tt) (lit≤ tt))))
-      (ifLt-le _ _ (lit≤ tt) (lit≤ tt)))))
+      (ifEq-le _ _ (lit≤ tt) (ifLt-le _ _ (lit≤ tt) (ifLt-le _ _ (lit≤ tt) (lit≤ tt))))))
+      (ifLt-le _ _ (lit≤ tt) (lit≤ tt)))
 
-  pub refused-number : {code : ℕ} → code ≡ questionCode b t x a w → (code ≡ 0 → ⊥) → (1 ≤ code) × (code ≤ 16)
+  pub refused-number : {code : ℕ} → code ≡ questionCode cat target left right words → (code ≡ 0 → ⊥)
+      → (number FileTooShort ≤ code) × (code ≤ lastRefusal)
   refused-number e n = (omega arith, omega (arith, question-le))
 
   -- where there is no ground, the question is posed as it must be
-  posed : questionCode b t x a w ≡ 0 → Posed b t x a
-  unfolding questionCode targetCode leftSideCode rightSideCode
+  posed : questionCode cat target left right words ≡ 0 → Posed cat target left right
+  unfolding questionCode sidesCode targetCode leftSideCode rightSideCode
   posed e =
-      let after = orElse-right (checkCode b) _ e in
-      let later = orElse-right (targetCode b t) _ after in
-      let last = orElse-right (leftSideCode b t x) _ later in
+      let check = orElse-both (checkCode cat) _ e in
+      let table = orElse-both (targetCode cat target) _ (orElse-left (sidesCode cat target left right) _ (check .1)) in
+      let sides = orElse-both (leftSideCode cat target left) (rightSideCode cat target right) (table .1) in
       record {
-        accepted = orElse-left (checkCode b) _ e;
-        target = ifLt-passes t (tables b) _ _ (omega arith) (orElse-left (targetCode b t) _ after);
-        left = ifLt-passes x (2 ^ visible b t) _ _ (omega arith) (orElse-left (leftSideCode b t x) _ later);
-        right = λ n. own n (orElse-left (rightSideCode b t a) _ last);
+        accepted = check .0;
+        target = ifLt-passes target (tables cat) _ _ (omega arith) (table .0);
+        left = ifLt-passes left (2 ^ visible cat target) _ _ (omega arith) (sides .0);
+        right = λ n. own n (sides .1);
       }
     where
-      own : (a ≡ row → ⊥)
-          → ifEq a row 0 (ifLt a (inherited b t) (number UnknownRight) (ifLt a (visible b t) 0 (number UnknownRight))) ≡ 0
-          → a < visible b t
+      own : (right ≡ row → ⊥)
+          → ifEq right row 0 (ifLt right (inherited cat target) (number UnknownRight)
+          (ifLt right (visible cat target) 0 (number UnknownRight))) ≡ 0 → right < visible cat target
       own n e =
           let f = sym (ifEq-no 0 n) ∙ e in
-          let g = ifLt-fails a (inherited b t) _ _ (omega arith) f in
-          ifLt-passes a (visible b t) _ _ (omega arith) (sym (ifLt-no (number UnknownRight) g) ∙ f)
+          let g = ifLt-fails right (inherited cat target) _ _ (omega arith) f in
+          ifLt-passes right (visible cat target) _ _ (omega arith) (sym (ifLt-no (number UnknownRight) g) ∙ f)
 
-  pub question-posed : {code : ℕ} → code ≡ questionCode b t x a w → code ≡ 0 → Posed b t x a
+  pub question-posed : {code : ℕ} → code ≡ questionCode cat target left right words → code ≡ 0
+      → Posed cat target left right
   question-posed e z = posed (sym e ∙ z)
 
   -- what is replied
-  pub reply-refused : {code : ℕ} (values : List ℕ) (r : Refusal) → code ≡ questionCode b t x a w → (code ≡ 0 → ⊥) → number r ≡ code
-      → refused (number r) ≡ replyOf (questionCode b t x a w) values
-  unfolding replyOf
-  reply-refused values r e n f = ap refused (f ∙ e) ∙ sym (ifEq-no (answered values) (λ z. n (e ∙ z)))
-
-  reply-answered : (values : List ℕ) → questionCode b t x a w ≡ 0 → answered values ≡ replyOf (questionCode b t x a w) values
-  unfolding replyOf
-  reply-answered values z = sym (ifEq-yes (refused (questionCode b t x a w)) z)
-
-  pub ask-refused : {code : ℕ} (r : Refusal) → code ≡ questionCode b t x a w → (code ≡ 0 → ⊥) → number r ≡ code
-      → refused (number r) ≡ askMeaning b t x a w
+  pub ask-refused : {code : ℕ} (r : Refusal) → code ≡ questionCode cat target left right words → (code ≡ 0 → ⊥)
+      → number r ≡ code → refused (number r) ≡ askMeaning cat target left right words
   unfolding askMeaning
-  ask-refused r e n f = reply-refused _ r e n f
+  ask-refused r e n f = reply-refused _ (f ∙ e) (λ z. n (sym f ∙ z))
 
-  pub ask-meant : questionCode b t x a w ≡ 0 → answered (pick (holds (view b t) x a) 1 0 ∷ []) ≡ askMeaning b t x a w
+  pub ask-meant : questionCode cat target left right words ≡ 0
+      → answered (pick (holds (view cat target) left right) 1 0 ∷ []) ≡ askMeaning cat target left right words
   unfolding askMeaning
   ask-meant z = reply-answered _ z
 
-  no-breaks-true : ((p q : ℕ) → Breaks (view b t) x a p q → ⊥) → holds (view b t) x a ≡ true
-  no-breaks-true none = true-holds (view b t) x a (no-breaks-holds (view b t) (view-equivalence b t) x a none)
+  no-breaks-true : ((p q : ℕ) → Breaks (view cat target) left right p q → ⊥) → holds (view cat target) left right ≡ true
+  no-breaks-true none =
+      true-holds (view cat target) left right
+      (no-breaks-holds (view cat target) (view-equivalence cat target) left right none)
 
-  pub ask-told : {code : ℕ} (told : Bool) → code ≡ questionCode b t x a w → code ≡ 0 → told ≡ holds (view b t) x a
-      → answered (pick told 1 0 ∷ []) ≡ askMeaning b t x a w
+  pub ask-told : {code : ℕ} (told : Bool) → code ≡ questionCode cat target left right words → code ≡ 0
+      → told ≡ holds (view cat target) left right
+      → answered (pick told 1 0 ∷ []) ≡ askMeaning cat target left right words
   ask-told told e z f = ap (λ (h : Bool). answered (pick h 1 0 ∷ [])) f ∙ ask-meant (sym e ∙ z)
 
-  pub pair-refused : {code : ℕ} (r : Refusal) → code ≡ questionCode b t x a w → (code ≡ 0 → ⊥) → number r ≡ code
-      → PairMeaning b t x a w (refused (number r))
+  pub pair-refused : {code : ℕ} (r : Refusal) → code ≡ questionCode cat target left right words → (code ≡ 0 → ⊥)
+      → number r ≡ code → PairMeaning cat target left right words (refused (number r))
   pair-refused r e n f =
       record {
         isRefused = λ m. ap refused (f ∙ e);
@@ -99,8 +99,9 @@ module _ (b : List ℕ) (t x a w : ℕ) where
         breaking = λ z h. absurd (n (e ∙ z));
       }
 
-  pub pair-none : {code : ℕ} → code ≡ questionCode b t x a w → code ≡ 0 → ((p q : ℕ) → Breaks (view b t) x a p q → ⊥)
-      → PairMeaning b t x a w (answered [])
+  pub pair-none : {code : ℕ} → code ≡ questionCode cat target left right words → code ≡ 0
+      → ((p q : ℕ) → Breaks (view cat target) left right p q → ⊥)
+      → PairMeaning cat target left right words (answered [])
   pair-none e z none =
       record {
         isRefused = λ m. absurd (m (sym e ∙ z));
@@ -111,8 +112,8 @@ module _ (b : List ℕ) (t x a w : ℕ) where
       true-false : true ≡ false → ⊥
       true-false e = let k : _≡_ {A = ℕ} 0 1 = cc in omega arith
 
-  pub pair-breaking : {code p q : ℕ} → code ≡ questionCode b t x a w → code ≡ 0 → Breaks (view b t) x a p q
-      → PairMeaning b t x a w (answered (p ∷ q ∷ []))
+  pub pair-breaking : {code p q : ℕ} → code ≡ questionCode cat target left right words → code ≡ 0
+      → Breaks (view cat target) left right p q → PairMeaning cat target left right words (answered (p ∷ q ∷ []))
   pair-breaking {p} {q} e z h =
       record {
         isRefused = λ m. absurd (m (sym e ∙ z));
@@ -124,13 +125,13 @@ module _ (b : List ℕ) (t x a w : ℕ) where
       false-true e = let k : _≡_ {A = ℕ} 0 1 = cc in omega arith
 
 -- the work words afterwards
-module _ (b : List ℕ) (t x a : ℕ) (w : List ℕ) where
-  pub words-kept : {code : ℕ} → code ≡ questionCode b t x a (length w) → (code ≡ 0 → ⊥)
-      → w ≡ wordsAfter (questionCode b t x a (length w)) w
+module _ (cat : List ℕ) (target left right : ℕ) (words : List ℕ) where
+  pub words-kept : {code : ℕ} → code ≡ questionCode cat target left right (length words) → (code ≡ 0 → ⊥)
+      → words ≡ wordsAfter (questionCode cat target left right (length words)) words
   unfolding wordsAfter
-  words-kept e n = sym (ifEq-no (replicate (length w) 0) (λ z. n (e ∙ z)))
+  words-kept e n = sym (ifEq-no (replicate (length words) 0) (λ z. n (e ∙ z)))
 
-  pub words-zeroed : {code : ℕ} {u : List ℕ} → code ≡ questionCode b t x a (length w) → code ≡ 0 → u ≡ replicate (length w) 0
-      → u ≡ wordsAfter (questionCode b t x a (length w)) w
+  pub words-zeroed : {code : ℕ} {u : List ℕ} → code ≡ questionCode cat target left right (length words) → code ≡ 0
+      → u ≡ replicate (length words) 0 → u ≡ wordsAfter (questionCode cat target left right (length words)) words
   unfolding wordsAfter
-  words-zeroed e z f = f ∙ sym (ifEq-yes w (sym e ∙ z))
+  words-zeroed e z f = f ∙ sym (ifEq-yes words (sym e ∙ z))

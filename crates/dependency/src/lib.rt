@@ -1,7 +1,7 @@
 // The technician's two questions about a dependency: does it hold, and if not, which two rows break it?
-// Relies on `question` for what stands against a question, on `grounds` for the refusals, on `keys` for the keys of the members that a question looks
-// at, on `partition` and `search`, which answer it from keys alone, on `layout` for rows and columns and on `lent` for the work words. Called by hosts and
-// programs.
+// Relies on `question` for what stands against a question, on `refusals` for the refusal that has a number and for the
+// work words, on `keys` for the keys of the members that a question looks at, on `partition` and `search`, which answer
+// it from keys alone, and on `layout` for rows and columns. Called by hosts and programs.
 ghost use mathlib.Core.Path.{_≡_};
 ghost use lib.ListN.{length};
 ghost use Rattle.model.specs.Question.{questionCode, askMeaning, PairMeaning};
@@ -9,21 +9,23 @@ ghost use Rattle.model.specs.Reply.{askReply, pairReply, wordsAfter};
 
 mod keyed;
 
-use grounds::refusal;
 use keyed::breaking_pair;
 use keyed::holds;
-use lent::zero_words;
 use model::AskAnswer;
 use model::PairAnswer;
 use question::question_code;
+use refusals::refusal;
+use refusals::zero_words;
 use search::Found;
 
-// Does the left side give the right side in the target table? Every work word is 0 after an answer, and none is altered by a refusal.
+// Does the left side give the right side in the target table? Every work word is 0 after an answer, and none is altered
+// by a refusal.
 pub fn ask(cat: &[u8], target: u32, left: u32, right: u32, work: &mut [u32]) -> AskAnswer
     ensures { λ r. ⌜ askReply r ≡ askMeaning (now (cat .entry)) target left right (length (now (work .entry))) ⌝ }
     ensures { λ _.
         ⌜ now (work .exit)
-        ≡ wordsAfter (questionCode (now (cat .entry)) target left right (length (now (work .entry)))) (now (work .entry)) ⌝ }
+        ≡ wordsAfter (questionCode (now (cat .entry)) target left right (length (now (work .entry))))
+        (now (work .entry)) ⌝ }
 {
     let code = question_code(cat, target, left, right, work.len());
     if code != 0 {
@@ -41,7 +43,8 @@ pub fn pair(cat: &[u8], target: u32, left: u32, right: u32, work: &mut [u32]) ->
     ensures { λ r. ⌜ PairMeaning (now (cat .entry)) target left right (length (now (work .entry))) (pairReply r) ⌝ }
     ensures { λ _.
         ⌜ now (work .exit)
-        ≡ wordsAfter (questionCode (now (cat .entry)) target left right (length (now (work .entry)))) (now (work .entry)) ⌝ }
+        ≡ wordsAfter (questionCode (now (cat .entry)) target left right (length (now (work .entry))))
+        (now (work .entry)) ⌝ }
 {
     let code = question_code(cat, target, left, right, work.len());
     if code != 0 {

@@ -16,7 +16,7 @@ use Rattle.model.specs.Refusal.{orElse}
 use Rattle.model.specs.Packed.{entryAt, entriesFrom, entryCode, laterCode, restCode, entriesCode}
 use Rattle.model.specs.declared.Entry.{Entry}
 use Rattle.entries.specs.Verdict.{badUnless}
-use Rattle.entries.proofs.Grounds.{else-first, else-second}
+use Rattle.model.proofs.Grounds.{orElse-next, orElse-first}
 
 -- one entry
 pub target-over : (e : Entry) → 16 ≤ e .target → 15 ≡ entryCode e
@@ -103,12 +103,12 @@ from-none b n i e = ap (λ (k : ℕ). entriesCode (entriesFrom b k i)) (sym e)
 pub first-bad : (b : List ℕ) (n i : ℕ) → 0 < n → 15 ≡ entryCode (entryAt b i) → 15 ≡ entriesCode (entriesFrom b n i)
 unfolding entriesCode
 first-bad b n i h e =
-    rw (from-step b n i h) (e ∙ sym (else-first _ _ (λ z. let y : _≡_ {A = ℕ} 15 0 = e ∙ z in omega arith)))
+    rw (from-step b n i h) (e ∙ sym (orElse-first _ (λ z. let y : _≡_ {A = ℕ} 15 0 = e ∙ z in omega arith)))
 
 pub first-fine : (b : List ℕ) (n i : ℕ) {e : Entry} → 0 < n → e ≡ entryAt b i → 0 ≡ entryCode (entryAt b i)
     → entriesCode (entriesFrom b n i) ≡ restCode e (entriesFrom b (n - 1) (i + 4))
 unfolding entriesCode
-first-fine b n i h p e = rw (from-step b n i h, p) (else-second _ _ (sym e))
+first-fine b n i h p e = rw (from-step b n i h, p) (orElse-next _ (sym e))
 
 pub rest-none : (b : List ℕ) (e : Entry) (n i : ℕ) → n ≡ 0 → 0 ≡ restCode e (entriesFrom b n i)
 unfolding entriesFrom restCode
@@ -117,7 +117,7 @@ rest-none b e n i z = ap (λ (k : ℕ). restCode e (entriesFrom b k i)) (sym z)
 pub next-bad : (b : List ℕ) (e : Entry) (n i : ℕ) → 0 < n → 15 ≡ entryCode (entryAt b i) → 15 ≡ restCode e (entriesFrom b n i)
 unfolding restCode
 next-bad b e n i h p =
-    rw (from-step b n i h) (p ∙ sym (else-first _ _ (λ z. let y : _≡_ {A = ℕ} 15 0 = p ∙ z in omega arith)))
+    rw (from-step b n i h) (p ∙ sym (orElse-first _ (λ z. let y : _≡_ {A = ℕ} 15 0 = p ∙ z in omega arith)))
 
 later-not : (e f : Entry) → false ≡ earlier e f → laterCode e f ≡ 15
 unfolding laterCode
@@ -133,13 +133,13 @@ unfolding restCode
 next-not-later b e n i h p q =
     let l = later-not e (entryAt b i) q in
     rw (from-step b n i h)
-    (sym (else-second _ _ (sym p) ∙ else-first _ _ (λ z. let y : _≡_ {A = ℕ} 15 0 = sym l ∙ z in omega arith) ∙ l))
+    (sym (orElse-next _ (sym p) ∙ orElse-first _ (λ z. let y : _≡_ {A = ℕ} 15 0 = sym l ∙ z in omega arith) ∙ l))
 
 pub next-fine : (b : List ℕ) (e : Entry) (n i : ℕ) {f : Entry} → 0 < n → f ≡ entryAt b i → 0 ≡ entryCode (entryAt b i)
     → true ≡ earlier e (entryAt b i) → restCode e (entriesFrom b n i) ≡ restCode f (entriesFrom b (n - 1) (i + 4))
 unfolding restCode
 next-fine b e n i h r p q =
-    rw (from-step b n i h, r) (else-second _ _ (sym p) ∙ else-second _ _ (later-so e (entryAt b i) q))
+    rw (from-step b n i h, r) (orElse-next _ (sym p) ∙ orElse-next _ (later-so e (entryAt b i) q))
 
 not-bad : (t : Bool) → badUnless t ≡ pick t 0 15
 not-bad true = refl
@@ -150,15 +150,15 @@ module _ (at : ℕ) (before e : Entry) (t : Bool) (q : badUnless t ≡ entryCode
   pub after-bad : not t ≡ true → 15 ≡ orElse (entryCode e) (ifEq at 0 0 (laterCode before e))
   after-bad h =
       let u : 15 ≡ entryCode e = sym (ap badUnless (not-true t h)) ∙ q in
-      u ∙ sym (else-first _ _ (λ z. let y : _≡_ {A = ℕ} 15 0 = u ∙ z in omega arith))
+      u ∙ sym (orElse-first _ (λ z. let y : _≡_ {A = ℕ} 15 0 = u ∙ z in omega arith))
 
   no-ground : not t ≡ false → entryCode e ≡ 0
   no-ground h = sym q ∙ ap badUnless (not-false t h)
 
   pub after-none : not t ≡ false → at ≡ 0 → 0 ≡ orElse (entryCode e) (ifEq at 0 0 (laterCode before e))
-  after-none h z = sym (else-second _ _ (no-ground h) ∙ ifEq-yes _ z)
+  after-none h z = sym (orElse-next _ (no-ground h) ∙ ifEq-yes _ z)
 
   pub after-later : {u : Bool} → not t ≡ false → (at ≡ 0 → ⊥) → u ≡ earlier before e
       → badUnless u ≡ orElse (entryCode e) (ifEq at 0 0 (laterCode before e))
   unfolding laterCode
-  after-later {u} h n p = not-bad u ∙ ap (λ (v : Bool). pick v 0 15) p ∙ sym (else-second _ _ (no-ground h) ∙ ifEq-no 0 n)
+  after-later {u} h n p = not-bad u ∙ ap (λ (v : Bool). pick v 0 15) p ∙ sym (orElse-next _ (no-ground h) ∙ ifEq-no 0 n)

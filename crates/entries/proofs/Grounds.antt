@@ -1,34 +1,14 @@
--- Where a chain of tests finds no ground (its number is 0), each test says so; and a reply by the number of its ground.
+-- Where a chain of tests finds no ground (its number is 0), each test says so.
 use Prim.Native.Nat.{ℕ, zero, suc, _≤_, _<_}
-use mathlib.Core.Path.{_≡_, refl, sym, ap, _∙_}
+use mathlib.Core.Path.{_≡_, refl, sym, _∙_}
 use mathlib.Core.Logic.{_⊎_, inl, inr}
-use mathlib.Core.List.{List}
 use mathlib.Core.Bool.{Bool, true, false}
 use native.Mathlib.Omega.{arith}
 use native.Mathlib.Decide.{decLe, decLt, ℕ-discrete}
 use lib.Dec.{ltb}
 use borrow.Author.Tests.{lt-ltb, le-ltb}
 use Rattle.columns.specs.Test.{ifEq, ifLt, ifLe, pick}
-use Rattle.columns.proofs.Test.{ifEq-yes, ifEq-no, ifLt-yes, ifLt-no, ifLe-yes, ifLe-no, is-if-eq, is-if-ne}
-use Rattle.model.specs.Refusal.{orElse}
-use Rattle.model.specs.Reply.{refused, answered, replyOf}
-
--- both grounds of two
-pub no-else : (a b : ℕ) → orElse a b ≡ 0 → (a ≡ 0) × (b ≡ 0)
-unfolding orElse
-no-else a b h = go (ℕ-discrete a 0)
-  where
-    go : Dec (a ≡ 0) → (a ≡ 0) × (b ≡ 0)
-    go (yes e) = (e, sym (ifEq-yes a e) ∙ h)
-    go (no n) = absurd (n (sym (ifEq-no b n) ∙ h))
-
-pub else-second : (a b : ℕ) → a ≡ 0 → orElse a b ≡ b
-unfolding orElse
-else-second a b e = ifEq-yes a e
-
-pub else-first : (a b : ℕ) → (a ≡ 0 → ⊥) → orElse a b ≡ a
-unfolding orElse
-else-first a b n = ifEq-no b n
+use Rattle.columns.proofs.Test.{ifEq-yes, ifEq-no, ifLt-yes, ifLt-no, ifLe-yes, ifLe-no}
 
 -- a test whose first answer is a ground
 pub no-le : (a b x y : ℕ) → (x ≡ 0 → ⊥) → ifLe a b x y ≡ 0 → (b < a) × (y ≡ 0)
@@ -73,12 +53,3 @@ same-lt a b c d f g = go (decLt a b)
     go : Dec (a < b) → ltb a b ≡ ltb c d
     go (yes h) = lt-ltb a b h ∙ sym (lt-ltb c d (f h))
     go (no n) = let h : b ≤ a = omega arith in le-ltb a b h ∙ sym (le-ltb c d (g h))
-
--- a reply by its code
-pub reply-refused : {n code : ℕ} (values : List ℕ) → n ≡ code → (n ≡ 0 → ⊥) → refused n ≡ replyOf code values
-unfolding replyOf
-reply-refused values e z = is-if-ne _ (λ y. z (e ∙ y)) (ap refused e)
-
-pub reply-answered : {code : ℕ} (values : List ℕ) → code ≡ 0 → answered values ≡ replyOf code values
-unfolding replyOf
-reply-answered values e = is-if-eq _ e refl

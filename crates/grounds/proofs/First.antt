@@ -1,21 +1,12 @@
--- The first ground, as code finds it: a code that is not 0 is the answer; after a code that is 0 comes the next ground.
+-- The first of a row of grounds, as a loop finds it.
 use Prim.Native.Nat.{ℕ, zero, suc, _+_, _-_, _≤_, _<_}
 use mathlib.Core.Path.{_≡_, refl, sym, ap, _∙_}
 use native.Mathlib.Nat.{sub-zero}
 use native.Mathlib.Omega.{arith}
-use Rattle.columns.proofs.Test.{is-if-eq, is-if-ne}
 use Rattle.model.specs.Refusal.{orElse, firstOf}
+use Rattle.model.proofs.Grounds.{is-this, is-next}
 
--- of two grounds
-pub is-this : {r a : ℕ} (b : ℕ) → r ≡ a → (r ≡ 0 → ⊥) → r ≡ orElse a b
-unfolding orElse
-is-this b e n = is-if-ne b (λ z. n (e ∙ z)) e
-
-pub is-next : {r b : ℕ} (a : ℕ) → a ≡ 0 → r ≡ b → r ≡ orElse a b
-unfolding orElse
-is-next a z e = is-if-eq a z e
-
--- of a row of grounds, n in all: below k there is none
+-- of n grounds, there is none below k
 abbrev pub NoneBelow : ℕ → ℕ → (ℕ → ℕ) → Type 0
 NoneBelow n k f = firstOf n 0 f ≡ firstOf (n - k) k f
 

@@ -1,14 +1,7 @@
-// Not for callers: the grounds against a file: refusals 1 to 7, one function for each, tried in the stated order. A ground's code is the
-// refusal's number, or 0 where there is none; in `code`, the numbers of all refusals.
-// Relies on `layout` for what stands where and on the definitions of `model`. Called by `catalogue`, `question`,
-// `dependency`, `steps` and `pages`.
-mod code;
-
-pub use code::TOO_FEW_WORDS;
-pub use code::UNKNOWN_COLUMN;
-pub use code::UNKNOWN_RIGHT;
-pub use code::UNKNOWN_TABLE;
-pub use code::refusal;
+// Not for callers: the grounds against a file: refusals 1 to 7, one function for each, tried in the stated order. A
+// ground's code is the refusal's number, or 0 where there is none.
+// Relies on `layout` for what stands where, on `refusals` for the numbers and on the definitions of `model`. Called by
+// `catalogue`, `question`, `steps` and `pages`.
 ghost use mathlib.Core.Path.{_≡_};
 ghost use Rattle.columns.specs.Test.{ifEq, ifLt};
 ghost use Rattle.model.specs.Bounds.{noParent};
@@ -17,13 +10,6 @@ ghost use Rattle.model.specs.declared.Refusal.the-variants.{BadParentRow};
 ghost use Rattle.model.specs.Catalogue.{tables as tablesOf, rows as rowsOf};
 ghost use Rattle.model.specs.Check.{sizeCode, trailerCode, startOf, headCode, boundCode, parentCode, widthCode};
 ghost use Rattle.model.specs.Check.{extentCode, rowCode, tableCode, leftCode, checkCode};
-use code::BAD_EXTENT;
-use code::BAD_PARENT_ROW;
-use code::BAD_PARENT_TABLE;
-use code::BAD_TRAILER;
-use code::FILE_TOO_SHORT;
-use code::TABLE_TOO_LARGE;
-use code::TOO_MANY_VISIBLE;
 use columns::COLUMN_BOUND;
 use layout::back;
 use layout::columns;
@@ -37,6 +23,13 @@ use layout::trailer;
 use layout::visible;
 use model::ROW_BOUND;
 use model::TABLE_BOUND;
+use refusals::BAD_EXTENT;
+use refusals::BAD_PARENT_ROW;
+use refusals::BAD_PARENT_TABLE;
+use refusals::BAD_TRAILER;
+use refusals::FILE_TOO_SHORT;
+use refusals::TABLE_TOO_LARGE;
+use refusals::TOO_MANY_VISIBLE;
 
 // The bytes of the smallest file: `smallestFile` of the definitions.
 const SMALLEST_FILE: usize = 16;

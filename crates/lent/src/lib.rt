@@ -1,16 +1,3 @@
-// Not for callers: lent memory. `zero_words` is what every answer does to the work words; proofs/Lent.antt has the laws for walks by hand over a
-// lent slice of records, which the borrow checker does not cover.
-// Relies on nothing. Called by `dependency` and `steps`; the proofs of `listing`, `packed` and `host` cite the laws.
-ghost use mathlib.Core.Path.{_≡_};
-ghost use lib.ListN.{length, replicate};
-
-// Every work word is 0 afterwards, however many were lent.
-pub fn zero_words(work: &mut [u32])
-    ensures { λ _. ⌜ now (work .exit) ≡ replicate (length (now (work .entry))) 0 ⌝ }
-{
-    let mut i = 0;
-    while i < work.len() {
-        work[i] = 0;
-        i += 1;
-    }
-}
+// Not for callers: lent memory, as laws; no function. proofs/Lent.antt has those for walks by hand over a lent slice of
+// records, which the borrow checker does not cover.
+// Relies on nothing. The proofs of `listing`, `packed` and `host` cite the laws.

@@ -17,7 +17,8 @@ use Rattle.model.specs.Album.{headOf, codesOf, rowOf, trailerOf, album, 
 use Rattle.model.specs.Damaged.{groundsFrom, notZero, grounds, cut, noTable, children, offsetsFrom, manyTables, longTrailer, lateTable, shortHead, shortRow, leftByte, manyColumns, rowsOnly, manyRows, rootedRoot, ownParent, tooWide, rootedRow, unknownParentRow, smallest, mostColumns, mostRows, widest, lateAndLarge, largeAndRooted, ownParentAndWide, wideAndLong, longAndRooted, rowThenTable, rowThenByte}
 use Rattle.model.specs.Line.{inLine, forked, below, offsetsBy12, deepest}
 use Rattle.columns.specs.Set.{memberOf}
-use Rattle.model.specs.Question.{targetCode, leftSideCode, rightSideCode, wordsCode, questionCode, askMeaning}
+use Rattle.model.specs.Question.{targetCode, leftSideCode, rightSideCode, sidesCode, wordsCode, questionCode}
+use Rattle.model.specs.Question.{askMeaning}
 use Rattle.model.specs.Calls.{passed, written, placeCode, roomCode, callCode, runAfter, workAfter}
 use Rattle.model.specs.List.{codeAfter}
 use Rattle.model.specs.Entry.{earlier}
@@ -27,5 +28,5 @@ use Rattle.model.specs.RefusedCalls.{emptyList, lostEntry}
 use Rattle.model.specs.Text.{answerText, listingText, headLine, refusedLine, linesOf, entryLine, entryText, rightText, decimal, decimalIn}
 
 unfoldable pub computes : Unit {0}
-unfolding ones onesIn ifEq ifLt ifLe withoutOf inOrder bySizeFrom ofSize ofSizeFrom u16At u32At bytes2 bytes4 orElse firstOf replyOf wordsAfter tables trailer tableAt columns parent rows rowAt parentRow cell tableEnd visible visibleIn inherited sets setsFrom checkCode checkMeaning sizeCode trailerCode startOf headCode boundCode parentCode widthCode extentCode rowCode tableCode leftCode holds minimal allBelow agreeOn owner ownerIn ancestor ancestorIn cellsAgree agreeAt listed rightAt rightsFrom rightsIn rightsOf cells cellsFrom cellsOf entriesOf headOf codesOf rowOf trailerOf album noRows oneMissing bothMissing equalRows groundsFrom notZero grounds cut noTable children offsetsFrom manyTables longTrailer lateTable shortHead shortRow leftByte manyColumns rowsOnly manyRows rootedRoot ownParent tooWide rootedRow unknownParentRow smallest mostColumns mostRows widest lateAndLarge largeAndRooted ownParentAndWide wideAndLong longAndRooted rowThenTable rowThenByte inLine forked below offsetsBy12 deepest memberOf targetCode leftSideCode rightSideCode wordsCode questionCode askMeaning passed written placeCode roomCode callCode runAfter workAfter codeAfter earlier list.listCode bytesOf entryAt countIn distanceIn entriesBytes packed entriesFrom entriesIn frontOf entryCode laterCode restCode entriesCode outputCode packCode packMeaning outputAfter readCode openMeaning entriesRead frontRead readFrom readMeaning runRead readAt emptyList lostEntry answerText listingText headLine refusedLine linesOf entryLine entryText rightText decimal decimalIn
+unfolding ones onesIn ifEq ifLt ifLe withoutOf inOrder bySizeFrom ofSize ofSizeFrom u16At u32At bytes2 bytes4 orElse firstOf replyOf wordsAfter tables trailer tableAt columns parent rows rowAt parentRow cell tableEnd visible visibleIn inherited sets setsFrom checkCode checkMeaning sizeCode trailerCode startOf headCode boundCode parentCode widthCode extentCode rowCode tableCode leftCode holds minimal allBelow agreeOn owner ownerIn ancestor ancestorIn cellsAgree agreeAt listed rightAt rightsFrom rightsIn rightsOf cells cellsFrom cellsOf entriesOf headOf codesOf rowOf trailerOf album noRows oneMissing bothMissing equalRows groundsFrom notZero grounds cut noTable children offsetsFrom manyTables longTrailer lateTable shortHead shortRow leftByte manyColumns rowsOnly manyRows rootedRoot ownParent tooWide rootedRow unknownParentRow smallest mostColumns mostRows widest lateAndLarge largeAndRooted ownParentAndWide wideAndLong longAndRooted rowThenTable rowThenByte inLine forked below offsetsBy12 deepest memberOf targetCode leftSideCode rightSideCode sidesCode wordsCode questionCode askMeaning passed written placeCode roomCode callCode runAfter workAfter codeAfter earlier list.listCode bytesOf entryAt countIn distanceIn entriesBytes packed entriesFrom entriesIn frontOf entryCode laterCode restCode entriesCode outputCode packCode packMeaning outputAfter readCode openMeaning entriesRead frontRead readFrom readMeaning runRead readAt emptyList lostEntry answerText listingText headLine refusedLine linesOf entryLine entryText rightText decimal decimalIn
 computes = tt

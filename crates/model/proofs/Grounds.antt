@@ -1,14 +1,17 @@
--- Laws of grounds tried in order: there is none exactly if there is none at each step.
+-- Laws of grounds tried in order: which one counts, that there is none exactly if there is none at each step, and the
+-- reply by the number of the ground.
 use Prim.Native.Nat.{ℕ, zero, suc, _+_, _≤_, _<_}
-use mathlib.Core.Path.{_≡_, refl, sym, subst, _∙_}
+use mathlib.Core.Path.{_≡_, refl, sym, ap, subst, _∙_}
+use mathlib.Core.List.{List}
 use native.Mathlib.Nat.{not-suc-le-zero}
 use native.Mathlib.Decide.{ℕ-discrete, decLt}
 use native.Mathlib.Omega.{arith}
 use mathlib.Core.Bool.{Bool, true, false}
 use lib.Dec.{ltb, leb, eqb}
 use Rattle.columns.specs.Test.{pick, ifEq, ifLt, ifLe}
-use Rattle.columns.proofs.Test.{ifEq-yes, ifEq-no, ifLt-yes, ifLt-no, ifLe-no}
+use Rattle.columns.proofs.Test.{ifEq-yes, ifEq-no, ifLt-yes, ifLt-no, ifLe-no, is-if-eq, is-if-ne}
 use Rattle.model.specs.Refusal.{orElse, firstOf}
+use Rattle.model.specs.Reply.{refused, answered, replyOf}
 
 -- two grounds: the second counts where the first is none, and otherwise the first
 pub orElse-next : {a : ℕ} (b : ℕ) → a ≡ 0 → orElse a b ≡ b
@@ -19,6 +22,14 @@ pub orElse-first : {a : ℕ} (b : ℕ) → (a ≡ 0 → ⊥) → orElse a b ≡ 
 unfolding orElse
 orElse-first b n = ifEq-no b n
 
+-- and backwards, as code finds it: a code that is not 0 is the answer; after a code that is 0 comes the next ground
+pub is-this : {r a : ℕ} (b : ℕ) → r ≡ a → (r ≡ 0 → ⊥) → r ≡ orElse a b
+is-this b e n = e ∙ sym (orElse-first b (λ z. n (e ∙ z)))
+
+pub is-next : {r b : ℕ} (a : ℕ) → a ≡ 0 → r ≡ b → r ≡ orElse a b
+is-next {b} a z e = e ∙ sym (orElse-next b z)
+
+-- none of two grounds is none of both
 pub orElse-none : {a b : ℕ} → a ≡ 0 → b ≡ 0 → orElse a b ≡ 0
 orElse-none {a} {b} p q = orElse-next b p ∙ q
 
@@ -31,6 +42,25 @@ orElse-left a b e = at (ℕ-discrete a 0)
 
 pub orElse-right : (a b : ℕ) → orElse a b ≡ 0 → b ≡ 0
 orElse-right a b e = sym (orElse-next b (orElse-left a b e)) ∙ e
+
+pub orElse-both : (a b : ℕ) → orElse a b ≡ 0 → (a ≡ 0) × (b ≡ 0)
+orElse-both a b e = (orElse-left a b e, orElse-right a b e)
+
+-- nothing after a ground, and three grounds
+pub orElse-zero : (a : ℕ) → orElse a 0 ≡ a
+orElse-zero a = at (ℕ-discrete a 0)
+  where
+    at : Dec (a ≡ 0) → orElse a 0 ≡ a
+    at (yes z) = orElse-next 0 z ∙ sym z
+    at (no n) = orElse-first 0 n
+
+pub orElse-assoc : (a b c : ℕ) → orElse a (orElse b c) ≡ orElse (orElse a b) c
+orElse-assoc a b c = at (ℕ-discrete a 0)
+  where
+    at : Dec (a ≡ 0) → orElse a (orElse b c) ≡ orElse (orElse a b) c
+    at (yes z) = orElse-next (orElse b c) z ∙ ap (λ (x : ℕ). orElse x c) (sym (orElse-next b z))
+    at (no n) =
+        orElse-first (orElse b c) n ∙ sym (ap (λ (x : ℕ). orElse x c) (orElse-first b n) ∙ orElse-first c n)
 
 -- a row of grounds
 pub firstOf-none : (n i : ℕ) (f : ℕ → ℕ) → ((k : ℕ) → k < n → f (i + k) ≡ 0) → firstOf n i f ≡ 0
@@ -106,3 +136,12 @@ pub firstOf-le : (n i : ℕ) (f : ℕ → ℕ) {m : ℕ} → ((k : ℕ) → f k 
 unfolding firstOf
 firstOf-le zero i f h = omega arith
 firstOf-le (suc n) i f h = orElse-le (h i) (firstOf-le n (suc i) f h)
+
+-- a reply by its code
+pub reply-refused : {n code : ℕ} (values : List ℕ) → n ≡ code → (n ≡ 0 → ⊥) → refused n ≡ replyOf code values
+unfolding replyOf
+reply-refused values e z = is-if-ne _ (λ y. z (e ∙ y)) (ap refused e)
+
+pub reply-answered : {code : ℕ} (values : List ℕ) → code ≡ 0 → answered values ≡ replyOf code values
+unfolding replyOf
+reply-answered values e = is-if-eq _ e refl

@@ -14,7 +14,8 @@ use Rattle.model.specs.Calls.{flat, passed, written, runAfter, workAfter
 use Rattle.model.specs.Demand.{held, Linked, placeHeld, Every, AllObey}
 use Rattle.model.proofs.Calls.{le-or-lt, cell-le, call-none, passed-fit-at, flat-drop-le}
 use Rattle.model.proofs.Stops.{passed-all}
-use Rattle.model.proofs.Rightly.{reply-answered, obeys-rightly}
+use Rattle.model.proofs.Grounds.{reply-answered}
+use Rattle.model.proofs.Rightly.{obeys-rightly}
 use Rattle.model.proofs.Demand.{held-in-range}
 
 -- what a call is handed besides the place
@@ -92,8 +93,8 @@ module _ {A : Type 0} (cs : List (List A)) (s : Seen A)
   answers fits =
       held-answered (s .place) _ _ (s .reply)
       (o .reply
-      ∙ reply-answered _ _
-      (call-none cs (s .place) (s .budget) (length (s .run)) (length (s .work)) words inRange (λ _ _. fits)))
+      ∙ sym (reply-answered _
+      (call-none cs (s .place) (s .budget) (length (s .run)) (length (s .work)) words inRange (λ _ _. fits))))
 
   -- with budget and room for the next set it raises a place below the last
   pub progress : length (getD cs (s .place) []) ≤ length (s .run) → 0 < s .budget → s .place < length cs

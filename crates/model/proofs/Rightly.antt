@@ -12,22 +12,15 @@ use Rattle.columns.specs.Test.{ifEq}
 use Rattle.columns.proofs.Test.{ifEq-yes, ifEq-no}
 use Rattle.model.specs.Bounds.{workBound}
 use Rattle.model.specs.Refusal.{number}
-use Rattle.model.specs.Reply.{Reply, refused, answered, replyOf}
+use Rattle.model.specs.Reply.{Reply, refused, answered}
 use Rattle.model.specs.Calls.{flat, passed, written, runAfter, workAfter, callCode, Seen, Obeys}
 use Rattle.model.specs.Demand.{held, setsPassed, entryCount, Rightly}
 use Rattle.model.specs.declared.Refusal.the-variants.{TooFewWords, PastTheEnd, RunTooShort}
 use Rattle.model.proofs.Calls.{Outcome, few, past, short, none, outcome}
+use Rattle.model.proofs.Grounds.{reply-refused, reply-answered}
 use Rattle.model.proofs.Stops.{passed-stops, written-fits}
 
--- a code that is not 0 refuses, and 0 answers
-pub reply-refused : (code n : ℕ) (vs : List ℕ) → code ≡ n → 0 < n → replyOf code vs ≡ refused n
-unfolding replyOf
-reply-refused code n vs e h = ifEq-no _ (λ z. omega arith) ∙ ap refused e
-
-pub reply-answered : (code : ℕ) (vs : List ℕ) → code ≡ 0 → replyOf code vs ≡ answered vs
-unfolding replyOf
-reply-answered code vs e = ifEq-yes _ e
-
+-- what a code leaves in the run and in the work words
 pub run-answered : {A : Type 0} (code : ℕ) (es run : List A) → code ≡ 0
     → runAfter code es run ≡ es ++ drop (length es) run
 unfolding runAfter
@@ -152,25 +145,25 @@ module _ {A : Type 0} (cs : List (List A)) (s : Seen A) where
       → Obeys cs code s → Rightly cs s
   unfolding written
   by-outcome code (few e w) o =
-      refused-rightly (number TooFewWords) (o .reply ∙ reply-refused code _ _ e (omega arith))
+      refused-rightly (number TooFewWords) (o .reply ∙ sym (reply-refused _ (sym e) (λ z. omega arith)))
       (λ _. w, λ _. refl) (λ q. absurd (omega arith), λ h. absurd (omega arith))
       (λ q. absurd (omega arith), λ h. absurd (omega arith)) (inl refl)
       (o .run ∙ run-refused code _ _ (s .run) e (omega arith)) (λ q. absurd (omega arith))
       (λ q. o .work ∙ work-kept code _ (s .work) e (omega arith) q)
   by-outcome code (past e w l) o =
-      refused-rightly (number PastTheEnd) (o .reply ∙ reply-refused code _ _ e (omega arith))
+      refused-rightly (number PastTheEnd) (o .reply ∙ sym (reply-refused _ (sym e) (λ z. omega arith)))
       (λ q. absurd (omega arith), λ h. absurd (omega arith)) (λ _. (w, l), λ _. refl)
       (λ q. absurd (omega arith), λ h. absurd (omega arith)) (inr (inl refl))
       (o .run ∙ run-refused code _ _ (s .run) e (omega arith)) (λ q. absurd (omega arith))
       (λ q. o .work ∙ work-kept code _ (s .work) e (omega arith) q)
   by-outcome code (short e w l b h) o =
-      refused-rightly (number RunTooShort) (o .reply ∙ reply-refused code _ _ e (omega arith))
+      refused-rightly (number RunTooShort) (o .reply ∙ sym (reply-refused _ (sym e) (λ z. omega arith)))
       (λ q. absurd (omega arith), λ h. absurd (omega arith)) (λ q. absurd (omega arith), λ h. absurd (omega arith))
       (λ _. (w, l, b, h), λ _. refl) (inr (inr refl))
       (o .run ∙ run-refused code _ _ (s .run) e (omega arith)) (λ q. o .work ∙ work-short code (s .work) e)
       (λ q. absurd (q refl))
   by-outcome code (none e w l f) o =
-      answered-rightly _ _ refl refl (o .reply ∙ reply-answered code _ e)
+      answered-rightly _ _ refl refl (o .reply ∙ sym (reply-answered _ e))
       (o .run ∙ run-answered code _ (s .run) e) w l f (o .work ∙ work-answered code (s .work) e)
 
 pub obeys-rightly : {A : Type 0} (cs : List (List A)) (s : Seen A)

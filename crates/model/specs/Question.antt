@@ -15,34 +15,43 @@ use Rattle.model.specs.Target.{view}
 
 -- 8: the target is not below the number of tables
 unfoldable pub targetCode : List ℕ → ℕ → ℕ
-targetCode b t = ifLt t (tables b) 0 (number UnknownTable)
+targetCode cat target = ifLt target (tables cat) 0 (number UnknownTable)
 
 -- 9: the left side has a bit at or above the number of visible columns
 unfoldable pub leftSideCode : List ℕ → ℕ → ℕ → ℕ
-leftSideCode b t x = ifLt x (2 ^ visible b t) 0 (number UnknownColumn)
+leftSideCode cat target left = ifLt left (2 ^ visible cat target) 0 (number UnknownColumn)
 
 -- 10: the right side is neither an own column, by its visible number, nor the row
 unfoldable pub rightSideCode : List ℕ → ℕ → ℕ → ℕ
-rightSideCode b t a =
-    ifEq a row 0 (ifLt a (inherited b t) (number UnknownRight) (ifLt a (visible b t) 0 (number UnknownRight)))
+rightSideCode cat target right =
+    ifEq right row 0
+    (ifLt right (inherited cat target) (number UnknownRight) (ifLt right (visible cat target) 0 (number UnknownRight)))
+
+-- the first ground against a target and two sides of it: 8, then 9, then 10
+unfoldable pub sidesCode : List ℕ → ℕ → ℕ → ℕ → ℕ
+sidesCode cat target left right =
+    orElse (targetCode cat target) (orElse (leftSideCode cat target left) (rightSideCode cat target right))
 
 -- 11: too few work words
 unfoldable pub wordsCode : ℕ → ℕ
 wordsCode words = ifLt words workBound (number TooFewWords) 0
 
--- the first ground against a question, by number
+-- the first ground against a question, by number: those of the check, then 8 to 10, then 11
 unfoldable pub questionCode : List ℕ → ℕ → ℕ → ℕ → ℕ → ℕ
-questionCode b t x a words =
-    orElse (checkCode b)
-    (orElse (targetCode b t) (orElse (leftSideCode b t x) (orElse (rightSideCode b t a) (wordsCode words))))
+questionCode cat target left right words =
+    orElse (checkCode cat) (orElse (sidesCode cat target left right) (wordsCode words))
 
 -- 'holds' or 'breaks'
 unfoldable pub askMeaning : List ℕ → ℕ → ℕ → ℕ → ℕ → Reply
-askMeaning b t x a words = replyOf (questionCode b t x a words) (pick (holds (view b t) x a) 1 0 ∷ [])
+askMeaning cat target left right words =
+    replyOf (questionCode cat target left right words) (pick (holds (view cat target) left right) 1 0 ∷ [])
 
--- what the breaking pair may reply: 'none' where the dependency holds, and otherwise any two rows that break it, the lower first
-pub record PairMeaning (b : List ℕ) (t x a words : ℕ) (r : Reply) : Type 0 where
-  pub isRefused : (questionCode b t x a words ≡ 0 → ⊥) → r ≡ refused (questionCode b t x a words)
-  pub none : questionCode b t x a words ≡ 0 → holds (view b t) x a ≡ true → r ≡ answered []
-  pub breaking : questionCode b t x a words ≡ 0 → holds (view b t) x a ≡ false
-      → (p : ℕ) × (q : ℕ) × (r ≡ answered (p ∷ q ∷ [])) × Breaks (view b t) x a p q
+-- what the breaking pair may reply: 'none' where the dependency holds, and otherwise any two rows that break it, the
+-- lower first
+pub record PairMeaning (cat : List ℕ) (target left right words : ℕ) (r : Reply) : Type 0 where
+  pub isRefused : (questionCode cat target left right words ≡ 0 → ⊥)
+      → r ≡ refused (questionCode cat target left right words)
+  pub none : questionCode cat target left right words ≡ 0 → holds (view cat target) left right ≡ true
+      → r ≡ answered []
+  pub breaking : questionCode cat target left right words ≡ 0 → holds (view cat target) left right ≡ false
+      → (p : ℕ) × (q : ℕ) × (r ≡ answered (p ∷ q ∷ [])) × Breaks (view cat target) left right p q

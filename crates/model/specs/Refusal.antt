@@ -2,7 +2,10 @@
 use Prim.Native.Nat.{ℕ, zero, suc}
 use Rattle.columns.specs.Test.{ifEq}
 use Rattle.model.specs.declared.Refusal.{Refusal}
-use Rattle.model.specs.declared.Refusal.the-variants.{FileTooShort, BadTrailer, BadExtent, TableTooLarge, BadParentTable, TooManyVisible, BadParentRow, UnknownTable, UnknownColumn, UnknownRight, TooFewWords, PastTheEnd, RunTooShort, NoList, BadEntry, OutputTooShort}
+use Rattle.model.specs.declared.Refusal.the-variants.{FileTooShort, BadTrailer, BadExtent, TableTooLarge}
+use Rattle.model.specs.declared.Refusal.the-variants.{BadParentTable, TooManyVisible, BadParentRow, UnknownTable}
+use Rattle.model.specs.declared.Refusal.the-variants.{UnknownColumn, UnknownRight, TooFewWords, PastTheEnd}
+use Rattle.model.specs.declared.Refusal.the-variants.{RunTooShort, NoList, BadEntry, OutputTooShort}
 
 -- the document's number for each refusal, with its word
 abbrev pub number : Refusal → ℕ
@@ -22,6 +25,10 @@ number RunTooShort = 13  -- tray full
 number NoList = 14  -- no list
 number BadEntry = 15  -- bad entry
 number OutputTooShort = 16  -- short sheet
+
+-- the number of the last refusal: each later one adds a line above and moves this one
+abbrev pub lastRefusal : ℕ
+lastRefusal = number OutputTooShort
 
 -- the first ground of two
 unfoldable pub orElse : ℕ → ℕ → ℕ

@@ -1,4 +1,5 @@
--- What a call hands back to C: one number, a refusal's number made negative or a value of the answer, and the numbers behind lent pointers.
+-- What a call hands back to C: one number, a refusal's number made negative or a value of the answer, and the numbers
+-- behind lent pointers.
 use Prim.Native.Nat.{ℕ, zero, suc}
 use mathlib.Core.List.{[], _∷_}
 use lib.IntN.{ℤ, pos, negsuc, negℤ}
@@ -20,15 +21,16 @@ abbrev pub statusOf : Reply → ℤ
 statusOf (refused n) = negℤ (pos n)
 statusOf (answered vs) = pos 0
 
--- the reply that a number and the two rows behind lent pointers show: 1 with both rows, 0 for 'none', or a refusal. No other number is one:
--- `refused 0` is no reply of any call
+-- the reply that a number and the two rows behind lent pointers show: 1 with both rows, 0 for 'none', or a refusal.
+-- No other number is one: `refused 0` is no reply of any call
 abbrev pub pairSeen : ℤ → ℕ → ℕ → Reply
 pairSeen (negsuc n) first second = refused (suc n)
 pairSeen (pos zero) first second = answered []
 pairSeen (pos (suc zero)) first second = answered (first ∷ second ∷ [])
 pairSeen (pos (suc (suc n))) first second = refused 0
 
--- the reply that an entry count and the two numbers behind lent pointers show: the place reached, the sets passed and the count, or a refusal
+-- the reply that an entry count and the two numbers behind lent pointers show: the place reached, the sets passed and
+-- the count, or a refusal
 abbrev pub listSeen : ℤ → ℕ → ℕ → Reply
 listSeen (negsuc n) place passed = refused (suc n)
 listSeen (pos n) place passed = answered (place ∷ passed ∷ n ∷ [])

@@ -1,42 +1,26 @@
 // Not for callers: the number that an answer goes back to C as, a refusal as its number made negative.
-// Relies on the answers and replies of `model`. Called by `host`.
+// Relies on the answers and replies of `model` and on `refusals` for a refusal's number. Called by `host`.
 ghost use Prim.Native.Nat.{ℕ, _<_, _^_};
 ghost use mathlib.Core.Path.{_≡_};
 ghost use lib.IntN.{negℤ, pos, negsuc};
-ghost use Rattle.model.specs.Refusal.{number};
+ghost use Rattle.model.specs.Refusal.{number as Refusal·number};
 ghost use Rattle.model.specs.Reply.{listReply, packReply, entriesReply};
 ghost use Rattle.numbers.specs.Number.{numberOf, valueOr, listSeen};
 use model::EntriesAnswer;
 use model::ListAnswer;
 use model::PackAnswer;
 use model::Refusal;
+use refusals::number;
 
 // A refusal's number made negative, at both widths.
 pub fn negative(r: Refusal) -> i32
-    ensures { λ n. ⌜ n ≡ negℤ (pos (number r)) ⌝ }
+    ensures { λ n. ⌜ n ≡ negℤ (pos (Refusal·number r)) ⌝ }
 {
-    match r {
-        Refusal::FileTooShort => -1,
-        Refusal::BadTrailer => -2,
-        Refusal::BadExtent => -3,
-        Refusal::TableTooLarge => -4,
-        Refusal::BadParentTable => -5,
-        Refusal::TooManyVisible => -6,
-        Refusal::BadParentRow => -7,
-        Refusal::UnknownTable => -8,
-        Refusal::UnknownColumn => -9,
-        Refusal::UnknownRight => -10,
-        Refusal::TooFewWords => -11,
-        Refusal::PastTheEnd => -12,
-        Refusal::RunTooShort => -13,
-        Refusal::NoList => -14,
-        Refusal::BadEntry => -15,
-        Refusal::OutputTooShort => -16,
-    }
+    -(number(r) as i32)
 }
 
 pub fn wide_negative(r: Refusal) -> i64
-    ensures { λ n. ⌜ n ≡ negℤ (pos (number r)) ⌝ }
+    ensures { λ n. ⌜ n ≡ negℤ (pos (Refusal·number r)) ⌝ }
 {
     negative(r) as i64
 }
@@ -52,9 +36,11 @@ pub fn read_number(answer: EntriesAnswer) -> i64
     }
 }
 
-// A listing's answer as a number, the entry count; the place reached and the sets passed are written only with an answer.
+// A listing's answer as a number, the entry count; the place reached and the sets passed are written only with an
+// answer.
 pub fn list_number(answer: ListAnswer, reached: &mut u32, passed: &mut u32) -> i64
-    ensures { λ r. ⌜ (listSeen r (now (reached .exit)) (now (passed .exit)) ≡ listReply answer) × ((n : ℕ) → r ≡ negsuc n
+    ensures { λ r. ⌜ (listSeen r (now (reached .exit)) (now (passed .exit)) ≡ listReply answer)
+        × ((n : ℕ) → r ≡ negsuc n
         → (now (reached .exit) ≡ now (reached .entry)) × (now (passed .exit) ≡ now (passed .entry))) ⌝ }
 {
     match answer {

@@ -17,7 +17,7 @@ use Rattle.model.specs.declared.Entry.{Entry}
 use Rattle.model.specs.declared.EntriesAnswer.the-variants.{Refused}
 use Rattle.model.specs.declared.Refusal.{Refusal}
 use Rattle.entries.proofs.Entries.{length-from}
-use Rattle.entries.proofs.Grounds.{reply-refused, reply-answered}
+use Rattle.model.proofs.Grounds.{reply-refused, reply-answered}
 use Rattle.unpacking.specs.declared.Plan.{Plan}
 use Rattle.unpacking.specs.Part.{Part}
 use Rattle.packed.specs.Filling.{Planned}

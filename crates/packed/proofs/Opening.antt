@@ -11,16 +11,15 @@ use borrow.Author.Tests.{not-true, not-false}
 use Rattle.columns.proofs.Test.{ifEq-yes, ifEq-no, is-if-eq, is-if-ne, is-if-lt, is-if-not-lt}
 use Rattle.model.specs.Reply.{Reply, refused, answered, replyOf}
 use Rattle.model.specs.Packed.{entriesFrom, entriesIn, countIn, distanceIn, listCode, entriesCode, readCode, openMeaning}
-use Rattle.model.proofs.Grounds.{orElse-left}
+use Rattle.model.proofs.Grounds.{orElse-next, orElse-first, orElse-left, reply-refused, reply-answered}
 use Rattle.entries.specs.Verdict.{badUnless}
-use Rattle.entries.proofs.Grounds.{else-first, else-second, reply-refused, reply-answered}
 use Rattle.packed.proofs.Trailer.{Listed, listed, lists}
 
 -- 14
 no-list : (b : List ℕ) → 14 ≡ listCode b → refused 14 ≡ openMeaning b
 unfolding openMeaning readCode
 no-list b e =
-    reply-refused _ (e ∙ sym (else-first _ _ (λ z. let y : _≡_ {A = ℕ} 14 0 = e ∙ z in omega arith))) (λ z. omega arith)
+    reply-refused _ (e ∙ sym (orElse-first _ (λ z. let y : _≡_ {A = ℕ} 14 0 = e ∙ z in omega arith))) (λ z. omega arith)
 
 pub too-short : (b : List ℕ) → length b < 8 → refused 14 ≡ openMeaning b
 unfolding listCode
@@ -47,7 +46,7 @@ module _ (b : List ℕ) {d k : ℕ} (t : Bool) (h : 8 ≤ length b) (p : d ≡ d
   checked : badUnless t ≡ readCode b
   unfolding readCode entriesIn
   checked =
-      r ∙ ap entriesCode (ap₂ (λ (m n : ℕ). entriesFrom b m (length b - n)) q p) ∙ sym (else-second _ _ is-list)
+      r ∙ ap entriesCode (ap₂ (λ (m n : ℕ). entriesFrom b m (length b - n)) q p) ∙ sym (orElse-next _ is-list)
 
   pub bad-list : not t ≡ true → refused 15 ≡ openMeaning b
   unfolding openMeaning

@@ -16,7 +16,8 @@ use Rattle.model.specs.Refusal.{number, orElse}
 use Rattle.model.specs.Packed.{entryCode, laterCode, restCode, entriesCode}
 use Rattle.model.specs.declared.Entry.{Entry}
 use Rattle.entries.specs.Small.{Small}
-use Rattle.entries.proofs.Grounds.{no-else, no-le, eq-or, picked}
+use Rattle.model.proofs.Grounds.{orElse-both}
+use Rattle.entries.proofs.Grounds.{no-le, eq-or, picked}
 
 -- what an entry without a ground has
 pub record Fine (e : Entry) : Type 0 where
@@ -79,8 +80,8 @@ rest-bound : (e : Entry) (es : List Entry) → Fine e → e .left < 65536 → Sm
 unfolding restCode
 rest-bound e [] a s t h = omega (arith, ones-le 16 (e .left) s, a .target)
 rest-bound e (f ∷ fs) a s t h =
-    let p = no-else (entryCode f) (orElse (laterCode e f) (restCode f fs)) h in
-    let q = no-else (laterCode e f) (restCode f fs) (p .1) in
+    let p = orElse-both (entryCode f) (orElse (laterCode e f) (restCode f fs)) h in
+    let q = orElse-both (laterCode e f) (restCode f fs) (p .1) in
     let b = fine f (p .0) in
     let r = key-grows e f a b s (t .0) (later e f (q .0)) in
     let z = rest-bound f fs b (t .0) (t .1) (q .1) in
@@ -91,6 +92,6 @@ pub order-bound : (es : List Entry) → Small es → entriesCode es ≡ 0 → le
 unfolding entriesCode
 order-bound [] s h = omega arith
 order-bound (e ∷ es) s h =
-    let p = no-else (entryCode e) (restCode e es) h in
+    let p = orElse-both (entryCode e) (restCode e es) h in
     let z = rest-bound e es (fine e (p .0)) (s .0) (s .1) (p .1) in
     omega arith

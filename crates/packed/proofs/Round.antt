@@ -10,7 +10,7 @@ use Rattle.model.specs.Packed.{packed, entriesBytes, entriesFrom, entriesIn, co
 use Rattle.model.specs.declared.Entry.{Entry}
 use Rattle.entries.specs.Small.{Small, Bytes}
 use Rattle.packed.specs.Round.{ReadsBack, PacksBack}
-use Rattle.entries.proofs.Grounds.{no-else, else-second}
+use Rattle.model.proofs.Grounds.{orElse-next, orElse-both}
 use Rattle.entries.proofs.Bytes.{bytes4-of-u32, drop-four}
 use Rattle.packed.proofs.Order.{order-bound}
 use Rattle.packed.proofs.Trailer.{length-trailer, count-of, distance-of, listed, lists}
@@ -57,7 +57,7 @@ module _ (front : List ℕ) (es : List Entry) (s : Small es) (h : entriesCode es
   read : readCode (front ++ packed es) ≡ 0
   unfolding readCode
   read =
-      else-second _ _ (lists (front ++ packed es) record { trailer = omega (arith, long); distance = rw counted distant; fits = omega (arith, long, distant) })
+      orElse-next _ (lists (front ++ packed es) record { trailer = omega (arith, long); distance = rw counted distant; fits = omega (arith, long, distant) })
       ∙ ap entriesCode entries-read ∙ h
 
   pub reads-back : ReadsBack front es
@@ -81,7 +81,7 @@ trailer-forth b s h =
 module _ (b : List ℕ) (s : Bytes b) (h : readCode b ≡ 0) where
   grounds : (listCode b ≡ 0) × (entriesCode (entriesIn b) ≡ 0)
   unfolding readCode
-  grounds = no-else (listCode b) (entriesCode (entriesIn b)) h
+  grounds = orElse-both (listCode b) (entriesCode (entriesIn b)) h
 
   forth : packed (entriesIn b) ≡ drop (length b - distanceIn b) b
   unfolding packed entriesIn

@@ -24,7 +24,9 @@ use Rattle.model.specs.declared.Refusal.the-variants.{BadEntry, OutputTooShort}
 use Rattle.entries.specs.Verdict.{badUnless}
 use Rattle.packing.specs.declared.Packing.{Packing}
 use Rattle.packing.specs.Packing.{On, Finished, Passed, Started, Ready, Stepped, steps, stepsOf}
-use Rattle.entries.proofs.Grounds.{no-else, no-lt, else-first, else-second, reply-refused, reply-answered}
+use Rattle.model.proofs.Grounds.{orElse-next, orElse-first, orElse-right, orElse-zero, orElse-assoc}
+use Rattle.model.proofs.Grounds.{reply-refused, reply-answered}
+use Rattle.entries.proofs.Grounds.{no-lt}
 use Rattle.packing.proofs.Writes.{writes-entry, writes-trailer}
 
 -- the three ways to stand
@@ -89,20 +91,20 @@ steps-writing k s {i} g w a =
 -- 15 of all entries, and 16
 code-bad : (es : List Entry) (room : ℕ) → entriesCode es ≡ 15 → 15 ≡ packCode es room
 unfolding packCode
-code-bad es room e = sym (else-first _ _ (λ z. let y : _≡_ {A = ℕ} 15 0 = sym e ∙ z in omega arith) ∙ e)
+code-bad es room e = sym (orElse-first _ (λ z. let y : _≡_ {A = ℕ} 15 0 = sym e ∙ z in omega arith) ∙ e)
 
 code-short : (es : List Entry) (k room : ℕ) → length es ≡ k → entriesCode es ≡ 0 → room < 4 * k + 8 → 16 ≡ packCode es room
 unfolding packCode outputCode
-code-short es k room l e h = sym (else-second _ _ e ∙ ifLt-yes 0 (omega arith))
+code-short es k room l e h = sym (orElse-next _ e ∙ ifLt-yes 0 (omega arith))
 
 code-none : (es : List Entry) (k room : ℕ) → length es ≡ k → entriesCode es ≡ 0 → 4 * k + 8 ≤ room → packCode es room ≡ 0
 unfolding packCode outputCode
-code-none es k room l e h = else-second _ _ e ∙ ifLt-no 16 (omega arith)
+code-none es k room l e h = orElse-next _ e ∙ ifLt-no 16 (omega arith)
 
 -- no ground: there is room
 pub has-room : (es : List Entry) (room : ℕ) → packCode es room ≡ 0 → 4 * length es + 8 ≤ room
 unfolding packCode outputCode
-has-room es room h = no-lt room (4 * length es + 8) 16 0 (λ z. omega arith) (no-else (entriesCode es) _ h .1) .0
+has-room es room h = no-lt room (4 * length es + 8) 16 0 (λ z. omega arith) (orElse-right (entriesCode es) _ h) .0
 
 -- all entries are written, and the trailer
 pub on-finished : (es : List Entry) (o out : List ℕ) (k : ℕ) (r : Packing) (out′ : List ℕ) → length es ≡ k
@@ -151,21 +153,6 @@ no-grounds [] k l e = refl
 no-grounds (f ∷ es) k l e = absurd (omega arith)
 
 -- the checks of all entries, after the entry at i
-else-none : (a : ℕ) → orElse a 0 ≡ a
-else-none a = go (ℕ-discrete a 0)
-  where
-    go : Dec (a ≡ 0) → orElse a 0 ≡ a
-    go (yes e) = else-second a 0 e ∙ sym e
-    go (no n) = else-first a 0 n
-
-else-assoc : (a b c : ℕ) → orElse a (orElse b c) ≡ orElse (orElse a b) c
-else-assoc a b c = go (ℕ-discrete a 0)
-  where
-    go : Dec (a ≡ 0) → orElse a (orElse b c) ≡ orElse (orElse a b) c
-    go (yes e) = else-second a _ e ∙ ap (λ (x : ℕ). orElse x c) (sym (else-second a b e))
-    go (no n) =
-        else-first a _ n ∙ sym (ap (λ (x : ℕ). orElse x c) (else-first a b n) ∙ else-first a c n)
-
 first-check : (es : List Entry) → 0 < length es
     → entriesCode es ≡ orElse (entryCode (getD es 0 (entry 0 0 0))) (restCode (getD es 0 (entry 0 0 0)) (drop 1 es))
 unfolding entriesCode
@@ -176,7 +163,7 @@ next-check : (es : List Entry) (before : Entry) (i : ℕ) → i < length es → 
     ≡ orElse (orElse (entryCode (getD es i (entry 0 0 0))) (laterCode before (getD es i (entry 0 0 0))))
     (restCode (getD es i (entry 0 0 0)) (drop (i + 1) es))
 unfolding restCode
-next-check es before i h = rw (add-one i, drop-cons es i (entry 0 0 0) h) (else-assoc _ _ _)
+next-check es before i h = rw (add-one i, drop-cons es i (entry 0 0 0) h) (orElse-assoc _ _ _)
 
 pub checks-step : (es : List Entry) (before : Entry) (i : ℕ) {e : Entry} (t : Bool) → i < length es → e ≡ getD es i (entry 0 0 0)
     → (0 < i → entriesCode es ≡ restCode before (drop i es))
@@ -190,7 +177,7 @@ checks-step es before i {e} t h p c b = go (ℕ-discrete i 0)
         ∙ ap (λ (n : ℕ). orElse (entryCode (getD es n (entry 0 0 0))) (restCode (getD es n (entry 0 0 0)) (drop (n + 1) es))) (sym z)
         ∙ ap (λ (f : Entry). orElse (entryCode f) (restCode f (drop (i + 1) es))) (sym p)
         ∙ ap (λ (x : ℕ). orElse x (restCode e (drop (i + 1) es)))
-        (sym (b ∙ ap (orElse (entryCode e)) (ifEq-yes _ z) ∙ else-none (entryCode e)))
+        (sym (b ∙ ap (orElse (entryCode e)) (ifEq-yes _ z) ∙ orElse-zero (entryCode e)))
     go (no n) =
         c (omega arith)
         ∙ next-check es before i h
@@ -209,13 +196,13 @@ module _ (es : List Entry) (o : List ℕ) (s : Packing) (out : List ℕ) (k : �
   stepped = checks-step es (s .before) (s .at) t (on .next g) p (on .checked g w) b
 
   went-on : not t ≡ false → entriesCode es ≡ restCode e (drop (s .at + 1) es)
-  went-on f = stepped ∙ else-second _ _ (ap badUnless (not-false t f))
+  went-on f = stepped ∙ orElse-next _ (ap badUnless (not-false t f))
 
   pub step-bad : (r : Packing) → not t ≡ true → r .going ≡ false → r .answer ≡ Refused BadEntry → On es o r out
   step-bad r f q a =
       let u : badUnless t ≡ 15 = ap badUnless (not-true t f) in
       on-refused es o r out q (ap packReply a)
-      (code-bad es (length o) (stepped ∙ else-first _ _ (λ z. let y : _≡_ {A = ℕ} 15 0 = sym u ∙ z in omega arith) ∙ u))
+      (code-bad es (length o) (stepped ∙ orElse-first _ (λ z. let y : _≡_ {A = ℕ} 15 0 = sym u ∙ z in omega arith) ∙ u))
       (λ z. omega arith) (on .same g w)
 
   pub step-more : (r : Packing) → not t ≡ false → s .at + 1 < k → r .going ≡ true → r .writing ≡ false → r .at ≡ s .at + 1 → r .before ≡ e

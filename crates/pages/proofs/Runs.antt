@@ -23,7 +23,8 @@ use Rattle.model.specs.declared.ListAnswer.{ListAnswer}
 use Rattle.model.specs.declared.ListAnswer.the-variants as answer
 use Rattle.model.proofs.Calls.{call-none, passed-fit-at}
 use Rattle.model.proofs.Stops.{passed-in-range, written-fits}
-use Rattle.model.proofs.Rightly.{reply-answered, run-answered}
+use Rattle.model.proofs.Grounds.{reply-answered}
+use Rattle.model.proofs.Rightly.{run-answered}
 use Rattle.model.proofs.Listing.{cells-length}
 use Rattle.model.proofs.Complete.{after-none}
 use Rattle.model.proofs.Rights.{ordinary-bounded}
@@ -83,7 +84,7 @@ module _ (b : List ℕ) (last : ℕ) (h : Listable b last) (place : ℕ) (inRang
       ∙ call-none cs place last (length (replicate r (entry 0 0 0))) (length work) enough places (λ _ _. wide place)
 
   pub never-refused : (why : Refusal) (run : List Entry) (workThen : List ℕ) → Call (answer.Refused why) run workThen → ⊥
-  never-refused why run workThen o = refused-is-none (number why) _ (o .reply ∙ reply-answered _ _ no-code)
+  never-refused why run workThen o = refused-is-none (number why) _ (o .reply ∙ sym (reply-answered _ no-code))
 
   abbrev rows : List Entry
   rows = replicate r (entry 0 0 0)
@@ -96,7 +97,7 @@ module _ (b : List ℕ) (last : ℕ) (h : Listable b last) (place : ℕ) (inRang
   unfolding written
   ran-room reached k count run workThen small o =
       let said = answered-is reached k count (place + passes) passes (length (written last (length rows) (drop place cs)))
-      (o .reply ∙ reply-answered _ _ no-code) in
+      (o .reply ∙ sym (reply-answered _ no-code)) in
       let long = length-replicate r (entry 0 0 0) in
       let few = written-fits last (length rows) (drop place cs) in
       let all = passed-in-range last (length rows) (drop place cs) in

@@ -1,18 +1,19 @@
-// Not for callers: the refusals of a question: those of the check, then 8 to 11, by number. A ground's code is the refusal's number, or 0 where
-// there is none.
-// Relies on `grounds` for the check's grounds and on `layout` for what stands where. Called by `dependency`.
+// Not for callers: the refusals of a question: those of the check, then 8 to 10, which are a function of their own for
+// calls with other work words, then 11, by number. A ground's code is the refusal's number, or 0 where there is none.
+// Relies on `grounds` for the check's grounds, on `layout` for what stands where and on `refusals` for the numbers.
+// Called by `dependency`.
 ghost use mathlib.Core.Path.{_≡_};
-ghost use Rattle.model.specs.Question.{targetCode, leftSideCode, rightSideCode, wordsCode, questionCode};
-use grounds::TOO_FEW_WORDS;
-use grounds::UNKNOWN_COLUMN;
-use grounds::UNKNOWN_RIGHT;
-use grounds::UNKNOWN_TABLE;
+ghost use Rattle.model.specs.Question.{targetCode, leftSideCode, rightSideCode, sidesCode, wordsCode, questionCode};
 use grounds::check_code;
 use layout::inherited;
 use layout::tables;
 use layout::visible;
 use model::ROW;
 use model::WORK_BOUND;
+use refusals::TOO_FEW_WORDS;
+use refusals::UNKNOWN_COLUMN;
+use refusals::UNKNOWN_RIGHT;
+use refusals::UNKNOWN_TABLE;
 
 // The bits of a left side, as a number of the code.
 const LEFT_BITS: u32 = 32;
@@ -68,14 +69,10 @@ fn words_code(words: usize) -> u32
     0
 }
 
-// The first ground against a question.
-pub fn question_code(cat: &[u8], target: u32, left: u32, right: u32, words: usize) -> u32
-    ensures { λ r. ⌜ r ≡ questionCode (now (cat .entry)) target left right words ⌝ }
+// The first ground against a target and two sides of it: 8, then 9, then 10.
+pub fn sides_code(cat: &[u8], target: u32, left: u32, right: u32) -> u32
+    ensures { λ r. ⌜ r ≡ sidesCode (now (cat .entry)) target left right ⌝ }
 {
-    let check = check_code(cat);
-    if check != 0 {
-        return check;
-    }
     let unknown_table = target_code(cat, target);
     if unknown_table != 0 {
         return unknown_table;
@@ -84,9 +81,20 @@ pub fn question_code(cat: &[u8], target: u32, left: u32, right: u32, words: usiz
     if unknown_column != 0 {
         return unknown_column;
     }
-    let unknown_right = right_side_code(cat, target, right);
-    if unknown_right != 0 {
-        return unknown_right;
+    right_side_code(cat, target, right)
+}
+
+// The first ground against a question: those of the check, then 8 to 10, then 11.
+pub fn question_code(cat: &[u8], target: u32, left: u32, right: u32, words: usize) -> u32
+    ensures { λ r. ⌜ r ≡ questionCode (now (cat .entry)) target left right words ⌝ }
+{
+    let check = check_code(cat);
+    if check != 0 {
+        return check;
+    }
+    let sides = sides_code(cat, target, left, right);
+    if sides != 0 {
+        return sides;
     }
     words_code(words)
 }

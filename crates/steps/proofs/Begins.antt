@@ -7,7 +7,7 @@ use lib.ListN.{length, drop, getD, replicate}
 use Rattle.columns.proofs.Test.{ifEq-yes, ifEq-no}
 use Rattle.model.specs.Bounds.{workBound}
 use Rattle.model.specs.Check.{checkCode}
-use Rattle.model.specs.Refusal.{number}
+use Rattle.model.specs.Refusal.{number, lastRefusal}
 use Rattle.model.specs.Calls.{passed, written, callCode, workAfter}
 use Rattle.model.specs.Listing.{Listing, cells}
 use Rattle.model.specs.List.{codeAfter}
@@ -15,7 +15,7 @@ use Rattle.model.specs.Reply.{Reply, replyOf, answered}
 use Rattle.model.specs.declared.Entry.{Entry}
 use Rattle.model.specs.declared.ListAnswer.the-variants as answer
 use Rattle.model.specs.declared.Refusal.{Refusal}
-use Rattle.model.specs.declared.Refusal.the-variants.{OutputTooShort, FileTooShort, TooFewWords, PastTheEnd, RunTooShort}
+use Rattle.model.specs.declared.Refusal.the-variants.{FileTooShort, TooFewWords, PastTheEnd, RunTooShort}
 use Rattle.model.proofs.Grounds.{orElse-first}
 use Rattle.model.proofs.Complete.{after-none}
 use Rattle.model.proofs.Calls.{passed-spent, written-spent, passed-end-at, written-end-at, call-few, call-past, call-short, call-none}
@@ -33,7 +33,8 @@ use Rattle.walk.proofs.Places.{drop-here, drop-inside}
 use Rattle.walk.proofs.Walks.{ahead-next, cell-here}
 
 -- a code of the check that is not 0 is a refusal's number
-pub refusal-number : (cat : List ℕ) {k : ℕ} → k ≡ checkCode cat → (k ≡ 0 → ⊥) → (number FileTooShort ≤ k) × (k ≤ number OutputTooShort)
+pub refusal-number : (cat : List ℕ) {k : ℕ} → k ≡ checkCode cat → (k ≡ 0 → ⊥)
+    → (number FileTooShort ≤ k) × (k ≤ lastRefusal)
 refusal-number cat e n = (omega arith, omega (arith, check-code-le cat))
 
 module _ (before : ℕ) (l : Listing) (place budget room : ℕ) (words : List ℕ) where

@@ -1,7 +1,8 @@
 // Not for callers: the steps of a listing call, from entry to entry: `begin` and `step` decide everything, keep the work words and look at no
 // record.
 // Relies on `walk` for going from set to set, on `passing` for the walk's type, on `rights` for the numbers of rights, on `grounds` for the check's
-// grounds, on `layout` for the number of sets and on `lent` for the work words. Called by `listing`.
+// grounds, on `layout` for the number of sets and on `refusals` for the refusal that has a number and for the work
+// words. Called by `listing`.
 mod put;
 
 ghost use Rattle.model.specs.Check.{checkCode, Accepted};
@@ -9,15 +10,15 @@ ghost use Rattle.model.specs.Listing.{ordinary};
 ghost use Rattle.walk.specs.Meaning.{Good};
 ghost use Rattle.steps.specs.Steps.{Began, Went};
 use grounds::check_code;
-use grounds::refusal;
 use layout::sets;
-use lent::zero_words;
 use model::Entry;
 use model::ListAnswer;
 use model::Refusal;
 use passing::Reached;
 use passing::Walk;
 use put::put;
+use refusals::refusal;
+use refusals::zero_words;
 use walk::locate::first;
 use walk::onward::onward;
 use walk::onward::pass_first;

@@ -1,41 +1,15 @@
-// Not for callers: what the programs print. A refusal's number, and words, decimal numbers and entries, put into lent bytes at a position and
+// Not for callers: what the programs print: words, decimal numbers and entries, put into lent bytes at a position and
 // written to standard output in one go. Each answers the position behind what it put; what does not fit is left out.
 // Relies on the types of `model` and on `io` for digits. Called by the programs.
 ghost use mathlib.Core.Path.{_≡_};
 ghost use mathlib.Core.List.{[], _∷_};
 ghost use lib.ListN.{length};
 ghost use Rattle.columns.specs.Test.{ifLe};
-ghost use Rattle.model.specs.Refusal.{number as Refusal·number};
 ghost use Rattle.model.specs.Text.{decimal, rightText, entryText};
 ghost use Rattle.text.specs.Puts.{Puts};
 use libc::STDOUT_FILENO;
 use model::Entry;
 use model::ROW;
-use model::Refusal;
-
-// The document's number of a refusal.
-pub fn number(why: Refusal) -> u32
-    ensures { λ r. ⌜ r ≡ Refusal·number why ⌝ }
-{
-    match why {
-        Refusal::FileTooShort => 1,
-        Refusal::BadTrailer => 2,
-        Refusal::BadExtent => 3,
-        Refusal::TableTooLarge => 4,
-        Refusal::BadParentTable => 5,
-        Refusal::TooManyVisible => 6,
-        Refusal::BadParentRow => 7,
-        Refusal::UnknownTable => 8,
-        Refusal::UnknownColumn => 9,
-        Refusal::UnknownRight => 10,
-        Refusal::TooFewWords => 11,
-        Refusal::PastTheEnd => 12,
-        Refusal::RunTooShort => 13,
-        Refusal::NoList => 14,
-        Refusal::BadEntry => 15,
-        Refusal::OutputTooShort => 16,
-    }
-}
 
 // A byte.
 pub fn put_byte(out: &mut [u8], at: usize, x: u8) -> usize

@@ -17,7 +17,7 @@ pub fn print_count(n: u64) {
 // A refusal behind a space.
 pub fn print_refusal(why: Refusal) {
     print_word(b" refused");
-    print_count(text::number(why) as u64);
+    print_count(refusals::number(why) as u64);
 }
 
 // An entry behind a comma and a space.

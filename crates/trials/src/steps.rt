@@ -91,7 +91,7 @@ fn list_in_steps(
                     place: held,
                     calls: calls,
                     entries: n,
-                    refusal: text::number(why),
+                    refusal: refusals::number(why),
                 };
             }
         }

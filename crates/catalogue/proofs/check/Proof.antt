@@ -1,10 +1,11 @@
 -- `catalogue::check` meets its contract: a code that is not 0 is the refusal's number; else tables and sets are told.
-use mathlib.Core.Path.{ap, _∙_}
+use mathlib.Core.Path.{_∙_}
 use native.Mathlib.Omega.{arith}
 use denote.Ref.{now}
-use Rattle.columns.proofs.Test.{is-if-eq, is-if-ne}
-use Rattle.model.specs.Reply.{refused, replyOf}
+use Rattle.columns.proofs.Test.{is-if-eq}
+use Rattle.model.specs.Reply.{replyOf}
 use Rattle.model.specs.Check.{checkMeaning}
+use Rattle.model.proofs.Grounds.{reply-refused}
 use Rattle.grounds.proofs.Sound.{check-code-le}
 use borrow.Author.Needs.{needs}
 use Rattle.catalogue.proofs.check.Statement.{statement}
@@ -17,8 +18,8 @@ refusal-requires : tie.Need-refusal-requires
 refusal-requires c κs = omega (arith, check-code-le (now (c .before .before .before .args .b)))
 
 returns : tie.Need-returns
-unfolding checkMeaning replyOf
-returns c = is-if-ne _ (omega arith) (ap refused (c .refusal .ensures ∙ c .before .before .check-code .ensures))
+unfolding checkMeaning
+returns c = reply-refused _ (c .refusal .ensures ∙ c .before .before .check-code .ensures) (omega arith)
 
 tables-requires : tie.Need-tables-requires
 tables-requires c κs = search needs

@@ -1,7 +1,7 @@
 -- `grounds::check_code` meets its contract: the grounds in order.
 use native.Mathlib.Omega.{arith}
 use Rattle.model.specs.Check.{checkCode}
-use Rattle.grounds.proofs.First.{is-this, is-next}
+use Rattle.model.proofs.Grounds.{is-this, is-next}
 use borrow.Author.Needs.{needs}
 use Rattle.grounds.proofs.check_code.Statement.{statement}
 use Rattle.grounds.proofs.check_code.Tie as tie

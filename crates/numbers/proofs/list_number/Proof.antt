@@ -34,7 +34,8 @@ returns-2 c =
     let a = c .before .before .before .before .args in
     let g = c .before .before .answer2 .given in
     let seen : ℤ → Reply = λ z. listSeen z (now (a .reached)) (now (a .passed)) in (
-      ap seen (read-back64 (g .0 .0) (c .wide-negative .ensures)) ∙ refused-seen (g .0 .0) seen (λ n. refl) ∙ sym (ap listReply (g .1)),
+      ap seen (read-back64 (g .0 .0) (c .wide-negative .ensures)) ∙ refused-seen (g .0 .0) seen (λ n. refl)
+          ∙ sym (ap listReply (g .1)),
       λ n f. (refl, refl),
     )
 

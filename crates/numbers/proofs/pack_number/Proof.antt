@@ -22,7 +22,9 @@ returns : tie.Need-returns
 returns c = known-value packReply (c .before .answer .given .1) _ refl (c .before .before .before .pre)
 
 returns-2 : tie.Need-returns-2
-returns-2 c = known-refusal packReply (c .before .before .answer2 .given .1) (c .before .before .answer2 .given .0 .0) refl (c .wide-negative .ensures)
+returns-2 c =
+    let g = c .before .before .answer2 .given in
+    known-refusal packReply (g .1) (g .0 .0) refl (c .wide-negative .ensures)
 
 pub pack-number-spec : {M : Type 1} → statement M
 pack-number-spec =

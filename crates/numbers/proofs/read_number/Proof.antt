@@ -10,7 +10,8 @@ enum-known-answer : tie.Need-enum-known-answer
 enum-known-answer c = search needs
 
 cast-result : tie.Need-cast-result
-cast-result c = record { sfits = known-fits entriesReply (c .before .answer .given .1) (c .before .before .before .pre) }
+cast-result c =
+    record { sfits = known-fits entriesReply (c .before .answer .given .1) (c .before .before .before .pre) }
 
 enum-known-answer-2 : tie.Need-enum-known-answer-2
 enum-known-answer-2 c = search needs
@@ -22,7 +23,9 @@ returns : tie.Need-returns
 returns c = known-value entriesReply (c .before .answer .given .1) _ refl (c .before .before .before .pre)
 
 returns-2 : tie.Need-returns-2
-returns-2 c = known-refusal entriesReply (c .before .before .answer2 .given .1) (c .before .before .answer2 .given .0 .0) refl (c .wide-negative .ensures)
+returns-2 c =
+    let g = c .before .before .answer2 .given in
+    known-refusal entriesReply (g .1) (g .0 .0) refl (c .wide-negative .ensures)
 
 pub read-number-spec : {M : Type 1} → statement M
 read-number-spec =

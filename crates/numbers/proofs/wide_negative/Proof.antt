@@ -11,7 +11,8 @@ negative-requires : tie.Need-negative-requires
 negative-requires c κs = search needs
 
 cast-result : tie.Need-cast-result
-cast-result c = subst (SFits w64) (sym (read-back32 (c .before .args .r) (c .negative .ensures))) (fits64 (c .before .args .r))
+cast-result c =
+    subst (SFits w64) (sym (read-back32 (c .before .args .r) (c .negative .ensures))) (fits64 (c .before .args .r))
 
 returns : tie.Need-returns
 returns c = read-back64 (c .before .args .r) (read-back32 (c .before .args .r) (c .negative .ensures))

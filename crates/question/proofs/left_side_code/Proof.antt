@@ -1,4 +1,5 @@
--- `dependency::left_side_code` meets its contract: a number has no bit at or above n exactly if shifting it down by n leaves nothing.
+-- `question::left_side_code` meets its contract: a number has no bit at or above n exactly if shifting it down by n
+-- leaves nothing.
 use Prim.Native.Nat.{ℕ, _+_, _*_, _/_, _%_, _^_, _≤_, _<_}
 use mathlib.Core.Path.{_≡_, refl, sym, ap, subst, _∙_}
 use native.Mathlib.Decide.{decLt}

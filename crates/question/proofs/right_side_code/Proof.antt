@@ -1,4 +1,4 @@
--- `dependency::right_side_code` meets its contract.
+-- `question::right_side_code` meets its contract.
 use mathlib.Core.Path.{refl}
 use native.Mathlib.Omega.{arith}
 use Rattle.columns.proofs.Test.{is-if-eq, is-if-ne, is-if-lt, is-if-not-lt}
@@ -24,12 +24,14 @@ visible-requires c κs = search needs
 returns-3 : tie.Need-returns-3
 unfolding rightSideCode
 returns-3 c =
-    is-if-ne _ (c .before .before .before .before .if1 .left) (is-if-not-lt _ (omega arith) (is-if-lt _ (omega arith) refl))
+    is-if-ne _ (c .before .before .before .before .if1 .left)
+    (is-if-not-lt _ (omega arith) (is-if-lt _ (omega arith) refl))
 
 returns-4 : tie.Need-returns-4
 unfolding rightSideCode
 returns-4 c =
-    is-if-ne _ (c .before .before .before .before .if1 .left) (is-if-not-lt _ (omega arith) (is-if-not-lt _ (omega arith) refl))
+    is-if-ne _ (c .before .before .before .before .if1 .left)
+    (is-if-not-lt _ (omega arith) (is-if-not-lt _ (omega arith) refl))
 
 pub right-side-code-spec : {M : Type 1} → statement M
 right-side-code-spec =

@@ -1,4 +1,4 @@
--- `dependency::target_code` meets its contract.
+-- `question::target_code` meets its contract.
 use mathlib.Core.Path.{refl}
 use native.Mathlib.Omega.{arith}
 use Rattle.columns.proofs.Test.{is-if-lt, is-if-not-lt}

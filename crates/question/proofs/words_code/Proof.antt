@@ -1,4 +1,4 @@
--- `dependency::words_code` meets its contract.
+-- `question::words_code` meets its contract.
 use mathlib.Core.Path.{refl}
 use native.Mathlib.Omega.{arith}
 use Rattle.columns.proofs.Test.{is-if-lt, is-if-not-lt}

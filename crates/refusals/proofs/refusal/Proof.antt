@@ -1,16 +1,11 @@
--- `grounds::refusal` meets its contract: each number has its refusal, and what is left is the last.
-use Prim.Native.Nat.{ℕ, _+_, _≤_}
-use mathlib.Core.Path.{_≡_}
-use native.Mathlib.Nat.{le-antisymm}
-use native.Mathlib.Omega.{arith}
+-- `refusals::refusal` meets its contract: each number has its refusal, and what is left is the first.
+use Prim.Native.Nat.{_-_}
+use mathlib.Core.Path.{sym}
 use borrow.Author.Needs.{needs}
-use Rattle.grounds.proofs.code.refusal.Statement.{statement}
-use Rattle.grounds.proofs.code.refusal.Tie as tie
-
--- a number that is none of five in a row is past them
-past : {X : Type 0} (m n : ℕ) → m ≤ n →
-    ((((X × (n ≡ m → ⊥)) × (n ≡ m + 1 → ⊥)) × (n ≡ m + 2 → ⊥)) × (n ≡ m + 3 → ⊥)) × (n ≡ m + 4 → ⊥) → m + 5 ≤ n
-past m n h t = omega arith
+use Rattle.model.specs.Refusal.{lastRefusal}
+use Rattle.refusals.proofs.Numbers.{first-left}
+use Rattle.refusals.proofs.refusal.Statement.{statement}
+use Rattle.refusals.proofs.refusal.Tie as tie
 
 returns : tie.Need-returns
 returns c = search needs
@@ -60,11 +55,7 @@ returns-15 c = search needs
 returns-16 : tie.Need-returns-16
 returns-16 c =
     let code = c .before .args .code in
-    let none = c .match .rest in
-    let first-ten = none .0 .0 .0 .0 .0 in
-    let first-five = first-ten .0 .0 .0 .0 .0 in
-    let h = past 11 code (past 6 code (past 1 code (c .before .pre .0) first-five) first-ten) none in
-    le-antisymm h (c .before .pre .1)
+    sym (first-left _ code (lastRefusal - 1) (c .before .pre .0) (c .before .pre .1) (c .match .rest))
 
 pub refusal-spec : {M : Type 1} → statement M
 refusal-spec =

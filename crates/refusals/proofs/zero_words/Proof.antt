@@ -1,4 +1,4 @@
--- `lent::zero_words` meets its contract. The invariant: the words passed are 0, and the others are as they were.
+-- `refusals::zero_words` meets its contract. The invariant: the words passed are 0, and the others are as they were.
 -- The measure is what is left of the words.
 use Prim.Native.Nat.{ℕ, _≤_, _-_}
 use mathlib.Core.Path.{_≡_, _∙_}
@@ -9,8 +9,8 @@ use borrow.Author.Needs.{needs}
 use borrow.Author.Fill.{fill-none, fill-more}
 use lib.ListN.{length, drop, replicate, length-set}
 use lib.Seq.{drop-length}
-use Rattle.lent.proofs.zero_words.Statement.{statement}
-use Rattle.lent.proofs.zero_words.Tie as tie
+use Rattle.refusals.proofs.zero_words.Statement.{statement}
+use Rattle.refusals.proofs.zero_words.Tie as tie
 
 all-passed : (i : ℕ) (w : List ℕ) → i ≡ length w → replicate i 0 ++ drop i w ≡ replicate (length w) 0
 all-passed i w e = rw (e, drop-length w) (append-nil (replicate (length w) 0))
