@@ -11,7 +11,8 @@ use Rattle.model.specs.Check.{checkCode, checkMeaning, sizeCode, trailer
 use Rattle.model.specs.View.{holds, minimal, allBelow, agreeOn}
 use Rattle.model.specs.Target.{owner, ownerIn, ancestor, ancestorIn, cellsAgree, agreeAt, numbers, rightsOf}
 use Rattle.model.specs.Listing.{cells, cellsFrom, cellsOf, entriesOf}
-use Rattle.model.specs.Album.{headOf, codesOf, rowOf, trailerOf, album, noRows, oneMissing, bothMissing, equalRows}
+use Rattle.model.specs.Encode.{headOf, codesOf, rowOf, trailerOf}
+use Rattle.model.specs.Album.{album, noRows, oneMissing, bothMissing, equalRows}
 use Rattle.model.specs.Damaged.{groundsFrom, notZero, grounds, cut, noTable, children, offsetsFrom, manyTables, longTrailer, lateTable, shortHead, shortRow, leftByte, manyColumns, rowsOnly, manyRows, rootedRoot, ownParent, tooWide, rootedRow, unknownParentRow, smallest, mostColumns, mostRows, widest, lateAndLarge, largeAndRooted, ownParentAndWide, wideAndLong, longAndRooted, rowThenTable, rowThenByte}
 use Rattle.model.specs.Line.{inLine, forked, below, offsetsBy12, deepest}
 use Rattle.columns.specs.Set.{memberOf}

@@ -14,7 +14,7 @@ use Rattle.model.specs.Refusal.{number, orElse, firstOf}
 use Rattle.model.specs.declared.Refusal.the-variants.{BadParentRow}
 use Rattle.model.specs.Catalogue.{tables, trailer, tableAt, columns, parent, rows, rowAt, parentRow, tableEnd, visible, visibleIn}
 use Rattle.model.specs.Check.{Accepted, checkCode, tableCode, startOf, sizeCode, trailerCode, headCode, boundCode, parentCode, widthCode, extentCode, rowCode, leftCode}
-use Rattle.model.specs.Album.{headOf, codesOf, trailerOf}
+use Rattle.model.specs.Encode.{headOf, codesOf, trailerOf}
 use Rattle.model.specs.Damaged.{Damages, Only, groundsFrom, notZero, grounds, rowsOnly, manyRows, mostRows, AtTheBounds, DamageOrder}
 use Rattle.model.proofs.Grounds.{orElse-none, firstOf-none}
 use Rattle.model.proofs.Computes.{computes}

@@ -14,6 +14,7 @@ pub mod Demand
 pub mod List
 pub mod Packed
 pub mod Text
+pub mod Encode
 pub mod Album
 pub mod Damaged
 pub mod Line
