@@ -13,7 +13,7 @@ use Rattle.columns.specs.Test.{ifEq, pick}
 use Rattle.columns.proofs.Test.{ifEq-yes, ifEq-no, is-if-eq, is-if-ne, is-if-le, is-if-not-le}
 use Rattle.model.specs.Entry.{thenBelow, earlier}
 use Rattle.model.specs.Refusal.{orElse}
-use Rattle.model.specs.Packed.{entryAt, entriesFrom, entryCode, laterCode, restCode, entriesCode}
+use Rattle.model.specs.Entries.{entryAt, entriesFrom, entryCode, laterCode, restCode, entriesCode}
 use Rattle.model.specs.declared.Entry.{Entry}
 use Rattle.entries.specs.Verdict.{badUnless}
 use Rattle.entries.proofs.Grounds.{else-first, else-second}

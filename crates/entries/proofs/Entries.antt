@@ -9,7 +9,8 @@ use lib.ListN.{length, drop, List·getD-eq-default}
 use Rattle.file.proofs.Past.{u16-past}
 use Rattle.model.specs.Entry.{entry}
 use Rattle.model.specs.Bytes.{u16At, bytes2}
-use Rattle.model.specs.Packed.{bytesOf, entryAt, entriesBytes, entriesFrom, entriesIn, countIn, distanceIn, readAt}
+use Rattle.model.specs.Entries.{bytesOf, entryAt, entriesBytes, entriesFrom}
+use Rattle.model.specs.Reading.{entriesHeld, countIn, distanceIn, readAt}
 use Rattle.model.specs.declared.Entry.{Entry}
 use Rattle.model.specs.declared.ReadAnswer.the-variants.{Next, End}
 use Rattle.entries.specs.Small.{Small, Bytes}
@@ -86,15 +87,15 @@ read-past [] i h = refl
 read-past (e ∷ es) zero h = absurd (omega arith)
 read-past (e ∷ es) (suc i) h = read-past es i (omega arith)
 
-pub length-in : (b : List ℕ) → length (entriesIn b) ≡ countIn b
-unfolding entriesIn
+pub length-in : (b : List ℕ) → length (entriesHeld b) ≡ countIn b
+unfolding entriesHeld
 length-in b = length-from b (countIn b) (length b - distanceIn b)
 
 pub reads-next : (b : List ℕ) (i : ℕ) {e : Entry} {p : ℕ} → i < countIn b → p ≡ length b - distanceIn b → e ≡ entryAt b (p + 4 * i)
-    → Next e ≡ readAt (entriesIn b) i
-unfolding entriesIn
+    → Next e ≡ readAt (entriesHeld b) i
+unfolding entriesHeld
 reads-next b i h q r =
     ap Next (r ∙ ap (λ (n : ℕ). entryAt b (n + 4 * i)) q) ∙ sym (read-from b (countIn b) (length b - distanceIn b) i h)
 
-pub reads-end : (b : List ℕ) (i : ℕ) → countIn b ≤ i → End ≡ readAt (entriesIn b) i
-reads-end b i h = sym (read-past (entriesIn b) i (omega (arith, length-in b)))
+pub reads-end : (b : List ℕ) (i : ℕ) → countIn b ≤ i → End ≡ readAt (entriesHeld b) i
+reads-end b i h = sym (read-past (entriesHeld b) i (omega (arith, length-in b)))

@@ -8,7 +8,7 @@ ghost use Rattle.columns.specs.Set.{memberOf, sizeOf};
 ghost use Rattle.columns.specs.Test.{ifEq};
 ghost use Rattle.model.specs.Entry.{earlier};
 ghost use Rattle.model.specs.Refusal.{orElse};
-ghost use Rattle.model.specs.Packed.{entryCode, laterCode, entriesCode, entryAt, entriesFrom};
+ghost use Rattle.model.specs.Entries.{entryCode, laterCode, entriesCode, entryAt, entriesFrom};
 ghost use Rattle.entries.specs.Verdict.{badUnless};
 use columns::COLUMN_BOUND;
 use columns::ColumnSet;

@@ -1,5 +1,5 @@
--- The encoder of catalogues: the bytes of a table's head, of a row and of the trailer ("The catalogue file"). A catalogue
--- is the tables one after the other, each its head and its rows, and the trailer.
+-- The encoder of catalogues: the bytes of a table's head, of a row and of the trailer ("The catalogue file"). A
+-- catalogue is the tables one after the other, each its head and its rows, and the trailer.
 use Prim.Native.Nat.{ℕ}
 use mathlib.Core.List.{List, [], _∷_, _++_}
 use Rattle.model.specs.Bytes.{bytes2, bytes4}

@@ -11,8 +11,9 @@ use Rattle.columns.proofs.Test.{ifEq-yes, ifEq-no, is-if-eq, is-if-ne}
 use Rattle.model.specs.Calls.{runAfter}
 use Rattle.model.specs.Refusal.{number}
 use Rattle.model.specs.Reply.{answered, refused, entriesReply}
-use Rattle.model.specs.Packed.{entryAt, entriesFrom, entriesIn, countIn, distanceIn, readCode, openMeaning}
-use Rattle.model.specs.Packed.{entriesRead, readFrom, readMeaning, runRead}
+use Rattle.model.specs.Entries.{entryAt, entriesFrom}
+use Rattle.model.specs.Reading.{entriesHeld, countIn, distanceIn, readCode, openMeaning}
+use Rattle.model.specs.Reading.{entriesRead, readFrom, readMeaning, runRead}
 use Rattle.model.specs.declared.Entry.{Entry}
 use Rattle.model.specs.declared.EntriesAnswer.the-variants.{Refused}
 use Rattle.model.specs.declared.Refusal.{Refusal}
@@ -27,16 +28,16 @@ use Rattle.packed.proofs.Opening.{Opened, opened, refused-by}
 unread : (b : List ℕ) (from room : ℕ) → (readCode b ≡ 0 → ⊥) → readFrom b from room ≡ []
 unfolding readFrom entriesRead
 unread b from room m =
-    ap (λ (es : List Entry). take room (drop from es)) (ifEq-no (entriesIn b) m)
+    ap (λ (es : List Entry). take room (drop from es)) (ifEq-no (entriesHeld b) m)
     ∙ ap (take room) (drop-nil from) ∙ take-nil room
 
 module _ (b : List ℕ) (from room : ℕ) where
   pub planned-read : {k p : ℕ} {r : Plan} → answered (k ∷ p ∷ []) ≡ openMeaning b → Part k p from room r
       → Planned b from room r
-  unfolding readFrom readMeaning entriesRead entriesIn
+  unfolding readFrom readMeaning entriesRead entriesHeld
   planned-read {k} {p} {r} q f =
       let o = opened b q in
-      let e : entriesIn b ≡ entriesFrom b k p
+      let e : entriesHeld b ≡ entriesFrom b k p
       = ap (λ (n : ℕ). entriesFrom b n (length b - distanceIn b)) (sym (o .count)) ∙ ap (entriesFrom b k) (sym (o .place)) in
       let s : readFrom b from room ≡ entriesFrom b (r .count) (r .first)
       = ap (λ (es : List Entry). take room (drop from es)) (ifEq-yes [] (o .sound) ∙ e) ∙ f .entries b in

@@ -10,29 +10,30 @@ use lib.ListN.{length, getD}
 use borrow.Author.Tests.{not-true, not-false}
 use Rattle.columns.proofs.Test.{ifEq-yes, ifEq-no, is-if-eq, is-if-ne, is-if-lt, is-if-not-lt}
 use Rattle.model.specs.Reply.{Reply, refused, answered, replyOf}
-use Rattle.model.specs.Packed.{entriesFrom, entriesIn, countIn, distanceIn, listCode, entriesCode, readCode, openMeaning}
+use Rattle.model.specs.Entries.{entriesFrom, entriesCode}
+use Rattle.model.specs.Reading.{entriesHeld, countIn, distanceIn, tailCode, readCode, openMeaning}
 use Rattle.model.proofs.Grounds.{orElse-left}
 use Rattle.entries.specs.Verdict.{badUnless}
 use Rattle.entries.proofs.Grounds.{else-first, else-second, reply-refused, reply-answered}
 use Rattle.packed.proofs.Trailer.{Listed, listed, lists}
 
 -- 14
-no-list : (b : List ℕ) → 14 ≡ listCode b → refused 14 ≡ openMeaning b
+no-list : (b : List ℕ) → 14 ≡ tailCode b → refused 14 ≡ openMeaning b
 unfolding openMeaning readCode
 no-list b e =
     reply-refused _ (e ∙ sym (else-first _ _ (λ z. let y : _≡_ {A = ℕ} 14 0 = e ∙ z in omega arith))) (λ z. omega arith)
 
 pub too-short : (b : List ℕ) → length b < 8 → refused 14 ≡ openMeaning b
-unfolding listCode
+unfolding tailCode
 too-short b h = no-list b (is-if-lt _ h refl)
 
 pub wrong-distance : (b : List ℕ) {d k : ℕ} → 8 ≤ length b → d ≡ distanceIn b → k ≡ countIn b → (d ≡ 4 * k + 8 → ⊥) → refused 14 ≡ openMeaning b
-unfolding listCode
+unfolding tailCode
 wrong-distance b h p q n =
     no-list b (is-if-not-lt _ h (is-if-ne _ (λ z. n (p ∙ z ∙ ap (λ (k : ℕ). 4 * k + 8) (sym q))) refl))
 
 pub too-far : (b : List ℕ) {d k : ℕ} → 8 ≤ length b → d ≡ distanceIn b → k ≡ countIn b → d ≡ 4 * k + 8 → length b < d → refused 14 ≡ openMeaning b
-unfolding listCode
+unfolding tailCode
 too-far b h p q e l =
     no-list b
     (is-if-not-lt _ h (is-if-eq _ (sym p ∙ e ∙ ap (λ (k : ℕ). 4 * k + 8) q) (is-if-lt _ (omega arith) refl)))
@@ -40,12 +41,12 @@ too-far b h p q e l =
 -- 15, and the list
 module _ (b : List ℕ) {d k : ℕ} (t : Bool) (h : 8 ≤ length b) (p : d ≡ distanceIn b) (q : k ≡ countIn b) (e : d ≡ 4 * k + 8)
     (l : d ≤ length b) (r : badUnless t ≡ entriesCode (entriesFrom b k (length b - d))) where
-  is-list : listCode b ≡ 0
+  is-list : tailCode b ≡ 0
   is-list =
       lists b (record { trailer = h; distance = sym p ∙ e ∙ ap (λ (k : ℕ). 4 * k + 8) q; fits = omega arith })
 
   checked : badUnless t ≡ readCode b
-  unfolding readCode entriesIn
+  unfolding readCode entriesHeld
   checked =
       r ∙ ap entriesCode (ap₂ (λ (m n : ℕ). entriesFrom b m (length b - n)) q p) ∙ sym (else-second _ _ is-list)
 
@@ -99,7 +100,7 @@ pub opened : (b : List ℕ) {k first : ℕ} → answered (k ∷ first ∷ []) �
 unfolding openMeaning readCode
 opened b {k} {first} p =
     let q = answered-by (readCode b) (countIn b ∷ (length b - distanceIn b) ∷ []) p in
-    let l = listed b (orElse-left (listCode b) _ (q .0)) in
+    let l = listed b (orElse-left (tailCode b) _ (q .0)) in
     let m : k ≡ countIn b = ap (λ (v : List ℕ). getD v 0 0) (q .1) in
     let n : first ≡ length b - distanceIn b = ap (λ (v : List ℕ). getD v 1 0) (q .1) in
     record { sound = q .0; count = m; place = n; inside = omega (arith, l .distance, l .fits) }

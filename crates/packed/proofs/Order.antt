@@ -13,7 +13,7 @@ use Rattle.columns.specs.Set.{memberOf, sizeOf}
 use Rattle.columns.specs.Test.{ifEq, ifLe, pick}
 use Rattle.model.specs.Entry.{earlier, thenBelow}
 use Rattle.model.specs.Refusal.{number, orElse}
-use Rattle.model.specs.Packed.{entryCode, laterCode, restCode, entriesCode}
+use Rattle.model.specs.Entries.{entryCode, laterCode, restCode, entriesCode}
 use Rattle.model.specs.declared.Entry.{Entry}
 use Rattle.entries.specs.Small.{Small}
 use Rattle.entries.proofs.Grounds.{no-else, no-le, eq-or, picked}

@@ -8,7 +8,7 @@ use lib.ListN.{length}
 use denote.Ref.{RefT, now}
 use Rattle.columns.proofs.Test.{ifEq-yes, ifEq-no, ifLt-yes, ifLt-no}
 use Rattle.model.specs.Reply.{refused, answered, replyOf, openReply}
-use Rattle.model.specs.Packed.{countIn, distanceIn, entriesRead, frontRead, readCode, openMeaning, readAt}
+use Rattle.model.specs.Reading.{countIn, distanceIn, entriesRead, frontRead, readCode, openMeaning, readAt}
 use Rattle.model.specs.declared.Entry.{Entry}
 use Rattle.model.specs.declared.OpenAnswer.{OpenAnswer}
 use Rattle.model.specs.declared.OpenAnswer.the-variants.{Opened, Refused}

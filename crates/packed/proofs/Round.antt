@@ -6,7 +6,9 @@ use native.Mathlib.Omega.{arith}
 use lib.ListN.{length, length-append, take, drop, take-append-drop}
 use lib.Seq.{take-append-seam, drop-length}
 use Rattle.model.specs.Bytes.{u32At, bytes4}
-use Rattle.model.specs.Packed.{packed, entriesBytes, entriesFrom, entriesIn, countIn, distanceIn, frontOf, listCode, readCode, entriesCode}
+use Rattle.model.specs.Entries.{entriesBytes, entriesFrom, entriesCode}
+use Rattle.model.specs.Packing.{packed}
+use Rattle.model.specs.Reading.{entriesHeld, countIn, distanceIn, frontOf, tailCode, readCode}
 use Rattle.model.specs.declared.Entry.{Entry}
 use Rattle.entries.specs.Small.{Small, Bytes}
 use Rattle.packed.specs.Round.{ReadsBack, PacksBack}
@@ -44,8 +46,8 @@ module _ (front : List ℕ) (es : List Entry) (s : Small es) (h : entriesCode es
   first : length (front ++ packed es) - distanceIn (front ++ packed es) ≡ length front + 0
   first = omega (arith, long, distant)
 
-  entries-read : entriesIn (front ++ packed es) ≡ es
-  unfolding entriesIn packed
+  entries-read : entriesHeld (front ++ packed es) ≡ es
+  unfolding entriesHeld packed
   entries-read =
       rw (counted, first)
       (entries-after front (packed es) (length es) 0 ∙ entries-back es (bytes4 (length es) ++ bytes4 (4 * length es + 8)) s)
@@ -79,12 +81,12 @@ trailer-forth b s h =
     rw last (rw e at (word-forth b (length b - 8) s (omega arith)))
 
 module _ (b : List ℕ) (s : Bytes b) (h : readCode b ≡ 0) where
-  grounds : (listCode b ≡ 0) × (entriesCode (entriesIn b) ≡ 0)
+  grounds : (tailCode b ≡ 0) × (entriesCode (entriesHeld b) ≡ 0)
   unfolding readCode
-  grounds = no-else (listCode b) (entriesCode (entriesIn b)) h
+  grounds = no-else (tailCode b) (entriesCode (entriesHeld b)) h
 
-  forth : packed (entriesIn b) ≡ drop (length b - distanceIn b) b
-  unfolding packed entriesIn
+  forth : packed (entriesHeld b) ≡ drop (length b - distanceIn b) b
+  unfolding packed entriesHeld
   forth =
       let l = listed b (grounds .0) in
       let e : length b - distanceIn b + 4 * countIn b ≡ length b - 8 = omega arith in

@@ -7,7 +7,8 @@ use lib.ListN.{length, length-append}
 use Rattle.columns.specs.Test.{ifEq, ifLt}
 use Rattle.columns.proofs.Test.{ifEq-yes, ifLt-no}
 use Rattle.model.specs.Bytes.{u32At, bytes4}
-use Rattle.model.specs.Packed.{countIn, distanceIn, distanceOf, listCode}
+use Rattle.model.specs.Packing.{distanceOf}
+use Rattle.model.specs.Reading.{countIn, distanceIn, tailCode}
 use Rattle.entries.proofs.Grounds.{no-lt, no-ne}
 use Rattle.entries.proofs.Bytes.{u32-after, u32-of-bytes4}
 
@@ -39,14 +40,14 @@ pub record Listed (b : List ℕ) : Type 0 where
   pub distance : distanceIn b ≡ distanceOf (countIn b)
   pub fits : distanceIn b ≤ length b
 
-pub listed : (b : List ℕ) → listCode b ≡ 0 → Listed b
-unfolding listCode
+pub listed : (b : List ℕ) → tailCode b ≡ 0 → Listed b
+unfolding tailCode
 listed b h =
     let p = no-lt (length b) 8 14 (ifEq (distanceIn b) (distanceOf (countIn b)) (ifLt (length b) (distanceIn b) 14 0) 14) (λ z. omega arith) h in
     let q = no-ne (distanceIn b) (distanceOf (countIn b)) (ifLt (length b) (distanceIn b) 14 0) 14 (λ z. omega arith) (p .1) in
     let r = no-lt (length b) (distanceIn b) 14 0 (λ z. omega arith) (q .1) in
     record { trailer = p .0; distance = q .0; fits = r .0 }
 
-pub lists : (b : List ℕ) → Listed b → listCode b ≡ 0
-unfolding listCode
+pub lists : (b : List ℕ) → Listed b → tailCode b ≡ 0
+unfolding tailCode
 lists b l = ifLt-no 14 (l .trailer) ∙ ifEq-yes 14 (l .distance) ∙ ifLt-no 14 (l .fits)

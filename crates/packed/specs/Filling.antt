@@ -4,7 +4,8 @@ use mathlib.Core.Path.{_≡_}
 use mathlib.Core.List.{List}
 use lib.ListN.{length}
 use Rattle.model.specs.Reply.{entriesReply}
-use Rattle.model.specs.Packed.{entriesFrom, readFrom, readMeaning}
+use Rattle.model.specs.Entries.{entriesFrom}
+use Rattle.model.specs.Reading.{readFrom, readMeaning}
 use Rattle.unpacking.specs.declared.Plan.{Plan}
 
 -- what is read of a file, and the answer

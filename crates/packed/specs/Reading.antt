@@ -4,7 +4,7 @@ use mathlib.Core.Path.{_≡_}
 use mathlib.Core.List.{List}
 use lib.ListN.{length}
 use denote.Ref.{RefT, now}
-use Rattle.model.specs.Packed.{entriesRead, frontRead, openMeaning, readAt}
+use Rattle.model.specs.Reading.{entriesRead, frontRead, openMeaning, readAt}
 use Rattle.model.specs.Reply.{openReply}
 use Rattle.model.specs.declared.ReadAnswer.{ReadAnswer}
 use Rattle.model.specs.declared.ReadAnswer.the-variants.{End}

@@ -3,7 +3,7 @@
 ghost use mathlib.Core.Path.{_≡_};
 ghost use lib.ListN.{length};
 ghost use Rattle.model.specs.Reply.{entriesReply};
-ghost use Rattle.model.specs.Packed.{readMeaning, runRead};
+ghost use Rattle.model.specs.Reading.{readMeaning, runRead};
 ghost use Rattle.packed.specs.Filling.{Planned};
 use crate::open;
 use entries::entry_from;

@@ -16,7 +16,8 @@ use Rattle.model.specs.Bytes.{bytes4}
 use Rattle.model.specs.Entry.{entry}
 use Rattle.model.specs.Refusal.{number, orElse}
 use Rattle.model.specs.Reply.{Reply, refused, answered, packReply}
-use Rattle.model.specs.Packed.{bytesOf, entriesBytes, packed, distanceOf, entryCode, laterCode, restCode, entriesCode, outputCode, packCode, packMeaning, outputAfter}
+use Rattle.model.specs.Entries.{bytesOf, entriesBytes, entryCode, laterCode, restCode, entriesCode}
+use Rattle.model.specs.Packing.{packed, distanceOf, outputCode, packCode, packMeaning, outputAfter}
 use Rattle.model.specs.declared.Entry.{Entry}
 use Rattle.model.specs.declared.PackAnswer.{PackAnswer}
 use Rattle.model.specs.declared.PackAnswer.the-variants.{Packed, Refused}

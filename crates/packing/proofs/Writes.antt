@@ -8,7 +8,8 @@ use lib.ListN.{length, length-append, length-take, length-drop, getD, set, take,
 use lib.Seq.{sets, sets-eq, take-append-seam, drop-append-add, drop-drop, take-suc, take-all, length-take-le}
 use Rattle.model.specs.Bytes.{bytes2, bytes4}
 use Rattle.model.specs.Entry.{entry}
-use Rattle.model.specs.Packed.{bytesOf, entriesBytes, packed}
+use Rattle.model.specs.Entries.{bytesOf, entriesBytes}
+use Rattle.model.specs.Packing.{packed}
 use Rattle.model.specs.declared.Entry.{Entry}
 use Rattle.entries.proofs.Entries.{length-entries}
 

@@ -8,7 +8,8 @@ use lib.Seq.{sets}
 use Rattle.model.specs.Bytes.{bytes4}
 use Rattle.model.specs.Entry.{entry}
 use Rattle.model.specs.Reply.{packReply}
-use Rattle.model.specs.Packed.{entriesBytes, entriesCode, restCode, packCode, packMeaning, outputAfter}
+use Rattle.model.specs.Entries.{entriesBytes, entriesCode, restCode}
+use Rattle.model.specs.Packing.{packCode, packMeaning, outputAfter}
 use Rattle.model.specs.declared.Entry.{Entry}
 use Rattle.model.specs.declared.PackAnswer.the-variants.{Packed}
 use Rattle.packing.specs.declared.Packing.{Packing}

@@ -8,7 +8,7 @@ ghost use lib.Dec.{ltb};
 ghost use lib.ListN.{length};
 ghost use lib.Seq.{sets};
 ghost use Rattle.model.specs.Bytes.{bytes4};
-ghost use Rattle.model.specs.Packed.{bytesOf};
+ghost use Rattle.model.specs.Entries.{bytesOf};
 ghost use Rattle.packing.specs.Packing.{Started, Passed, Wrote, Finished, Ready, Stepped};
 use entries::fine_after;
 use model::Entry;

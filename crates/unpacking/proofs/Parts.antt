@@ -5,7 +5,7 @@ use mathlib.Core.List.{List, [], _∷_}
 use native.Mathlib.Omega.{arith}
 use lib.ListN.{take, drop}
 use lib.Seq.{take-all, take-nil}
-use Rattle.model.specs.Packed.{entryAt, entriesFrom}
+use Rattle.model.specs.Entries.{entryAt, entriesFrom}
 use Rattle.model.specs.declared.Entry.{Entry}
 use Rattle.model.specs.declared.EntriesAnswer.the-variants.{Read}
 use Rattle.entries.proofs.Entries.{length-from}

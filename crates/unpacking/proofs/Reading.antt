@@ -8,7 +8,8 @@ use lib.ListN.{length, take}
 use borrow.Author.Tests.{not-true, not-false}
 use Rattle.columns.specs.Test.{pick}
 use Rattle.columns.proofs.Test.{ifLt-yes, ifLt-no}
-use Rattle.model.specs.Packed.{countIn, distanceIn, entryAt, entriesIn, frontOf, readAt}
+use Rattle.model.specs.Entries.{entryAt}
+use Rattle.model.specs.Reading.{countIn, distanceIn, entriesHeld, frontOf, readAt}
 use Rattle.model.specs.declared.Entry.{Entry}
 use Rattle.model.specs.declared.OpenAnswer.{OpenAnswer}
 use Rattle.model.specs.declared.ReadAnswer.the-variants.{Next, End}
@@ -20,7 +21,7 @@ module _ (a : OpenAnswer) (b : List ℕ) (t : Bool) (e : t ≡ isOpen a) where
   module _ (n : not t ≡ true) where
     no-entries : [] ≡ entriesBy a b
     unfolding entriesBy
-    no-entries = ap (λ (s : Bool). pick s (entriesIn b) []) (sym (not-true t n) ∙ e)
+    no-entries = ap (λ (s : Bool). pick s (entriesHeld b) []) (sym (not-true t n) ∙ e)
 
     pub no-front : [] ≡ frontBy a b
     unfolding frontBy
@@ -35,9 +36,9 @@ module _ (a : OpenAnswer) (b : List ℕ) (t : Bool) (e : t ≡ isOpen a) where
     refused-stays i = sym (ifLt-no _ (omega arith)) ∙ ap (λ (es : List Entry). afterIn es i) no-entries
 
   module _ (n : not t ≡ false) where
-    all-entries : entriesIn b ≡ entriesBy a b
+    all-entries : entriesHeld b ≡ entriesBy a b
     unfolding entriesBy
-    all-entries = ap (λ (s : Bool). pick s (entriesIn b) []) (sym (not-false t n) ∙ e)
+    all-entries = ap (λ (s : Bool). pick s (entriesHeld b) []) (sym (not-false t n) ∙ e)
 
     pub all-front : {k : ℕ} → k ≡ length b - distanceIn b → take k b ≡ frontBy a b
     unfolding frontBy frontOf

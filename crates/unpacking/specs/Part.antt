@@ -3,7 +3,7 @@ use Prim.Native.Nat.{ℕ, _+_, _*_, _≤_}
 use mathlib.Core.Path.{_≡_}
 use mathlib.Core.List.{List}
 use lib.ListN.{take, drop}
-use Rattle.model.specs.Packed.{entriesFrom}
+use Rattle.model.specs.Entries.{entriesFrom}
 use Rattle.model.specs.declared.EntriesAnswer.the-variants.{Read}
 use Rattle.unpacking.specs.declared.Plan.{Plan}
 

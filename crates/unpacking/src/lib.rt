@@ -4,7 +4,7 @@
 ghost use Prim.Native.Nat.{_+_, _-_, _*_, _<_, _^_};
 ghost use mathlib.Core.Path.{_≡_};
 ghost use lib.ListN.{length};
-ghost use Rattle.model.specs.Packed.{countIn, distanceIn, readAt};
+ghost use Rattle.model.specs.Reading.{countIn, distanceIn, readAt};
 ghost use Rattle.unpacking.specs.Reading.{isOpen, entriesBy, frontBy, afterIn};
 ghost use Rattle.unpacking.specs.Part.{Part};
 use entries::entry_from;

@@ -4,7 +4,7 @@ use Prim.Native.Nat.{_+_, _*_, _≤_}
 use native.Mathlib.Omega.{arith}
 use lib.ListN.{length}
 use borrow.Author.Needs.{needs}
-use Rattle.model.specs.Packed.{entriesFrom, restCode, entriesCode}
+use Rattle.model.specs.Entries.{entriesFrom, restCode, entriesCode}
 use Rattle.entries.proofs.Checks.{bad-at, fine-at, later-at, not-later-at, from-none, first-bad, first-fine, rest-none, next-bad, next-not-later, next-fine}
 use Rattle.entries.proofs.entries_ok.Statement.{statement}
 use Rattle.entries.proofs.entries_ok.Tie as tie
