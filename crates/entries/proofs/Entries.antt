@@ -7,14 +7,14 @@ use native.Mathlib.Nat.{add-assoc}
 use native.Mathlib.Omega.{arith}
 use lib.ListN.{length, drop, List·getD-eq-default}
 use Rattle.file.proofs.Past.{u16-past}
+use Rattle.file.proofs.Numbers.{byte-after, u16-after, u16-of-bytes2, bytes2-of-u16, drop-four}
 use Rattle.model.specs.Entry.{entry}
-use Rattle.model.specs.Bytes.{u16At, bytes2}
+use Rattle.model.specs.Bytes.{u16At, bytes2, Bytes}
 use Rattle.model.specs.Entries.{bytesOf, entryAt, entriesBytes, entriesFrom}
 use Rattle.model.specs.Reading.{entriesHeld, countIn, distanceIn, readAt}
 use Rattle.model.specs.declared.Entry.{Entry}
 use Rattle.model.specs.declared.ReadAnswer.the-variants.{Next, End}
-use Rattle.entries.specs.Small.{Small, Bytes}
-use Rattle.entries.proofs.Bytes.{byte-after, u16-after, u16-of-bytes2, bytes2-of-u16, drop-four}
+use Rattle.entries.specs.Small.{Small}
 
 -- behind a front
 entry-after : (xs ys : List ℕ) (i : ℕ) → entryAt (xs ++ ys) (length xs + i) ≡ entryAt ys i

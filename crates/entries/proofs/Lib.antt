@@ -1,4 +1,3 @@
 pub mod Grounds
-pub mod Bytes
 pub mod Entries
 pub mod Checks

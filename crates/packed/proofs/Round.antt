@@ -5,15 +5,15 @@ use mathlib.Core.List.{List, [], _∷_, _++_, append-assoc, append-nil}
 use native.Mathlib.Omega.{arith}
 use lib.ListN.{length, length-append, take, drop, take-append-drop}
 use lib.Seq.{take-append-seam, drop-length}
-use Rattle.model.specs.Bytes.{u32At, bytes4}
+use Rattle.model.specs.Bytes.{u32At, bytes4, Bytes}
 use Rattle.model.specs.Entries.{entriesBytes, entriesFrom, entriesCode}
 use Rattle.model.specs.Packing.{packed}
 use Rattle.model.specs.Reading.{entriesHeld, countIn, distanceIn, frontOf, tailCode, readCode}
 use Rattle.model.specs.declared.Entry.{Entry}
-use Rattle.entries.specs.Small.{Small, Bytes}
+use Rattle.entries.specs.Small.{Small}
 use Rattle.packed.specs.Round.{ReadsBack, PacksBack}
 use Rattle.entries.proofs.Grounds.{no-else, else-second}
-use Rattle.entries.proofs.Bytes.{bytes4-of-u32, drop-four}
+use Rattle.file.proofs.Numbers.{bytes4-of-u32, drop-four}
 use Rattle.packed.proofs.Order.{order-bound}
 use Rattle.packed.proofs.Trailer.{length-trailer, count-of, distance-of, listed, lists}
 use Rattle.entries.proofs.Entries.{entries-after, entries-back, entries-forth, length-entries, length-from}

@@ -10,7 +10,7 @@ use Rattle.model.specs.Bytes.{u32At, bytes4}
 use Rattle.model.specs.Packing.{distanceOf}
 use Rattle.model.specs.Reading.{countIn, distanceIn, tailCode}
 use Rattle.entries.proofs.Grounds.{no-lt, no-ne}
-use Rattle.entries.proofs.Bytes.{u32-after, u32-of-bytes4}
+use Rattle.file.proofs.Numbers.{u32-after, u32-of-bytes4}
 
 pub length-trailer : (xs : List ℕ) (k d : ℕ) → length (xs ++ (bytes4 k ++ bytes4 d)) ≡ length xs + 8
 unfolding bytes4

@@ -1,4 +1,4 @@
--- What is written: stores of four bytes, an entry behind those before it, and the trailer behind all.
+-- What is written: an entry's bytes, an entry behind those before it, and the trailer behind all.
 use Prim.Native.Nat.{ℕ, zero, suc, _+_, _-_, _*_, _/_, _%_, _≤_, _<_}
 use mathlib.Core.Path.{_≡_, refl, sym, ap, _∙_}
 use mathlib.Core.List.{List, [], _∷_, _++_, append-assoc, append-nil}
@@ -13,20 +13,11 @@ use Rattle.model.specs.Packing.{packed}
 use Rattle.model.specs.declared.Entry.{Entry}
 use Rattle.entries.proofs.Entries.{length-entries}
 
--- four stores
-four-stores : (l : List ℕ) (i a b c d : ℕ)
-    → set (set (set (set l i a) (i + 1) b) (i + 2) c) (i + 3) d ≡ sets l i (a ∷ b ∷ c ∷ d ∷ [])
-four-stores l i a b c d = simp towards-suc
-
-pub stores-word : (l : List ℕ) (i x : ℕ) {a b c d : ℕ} → a ≡ x % 256 → b ≡ x / 256 % 256 → c ≡ x / 65536 % 256 → d ≡ x / 16777216 % 256
-    → set (set (set (set l i a) (i + 1) b) (i + 2) c) (i + 3) d ≡ sets l i (bytes4 x)
-unfolding bytes4
-stores-word l i x {a} {b} {c} {d} p q r s = four-stores l i a b c d ∙ cc
-
-pub stores-entry : (l : List ℕ) (i : ℕ) (e : Entry) {c d : ℕ} → c ≡ e .left % 256 → d ≡ e .left / 256 % 256
-    → set (set (set (set l i (e .target)) (i + 1) (e .right)) (i + 2) c) (i + 3) d ≡ sets l i (bytesOf e)
-unfolding bytesOf bytes2
-stores-entry l i e {c} {d} p q = four-stores l i (e .target) (e .right) c d ∙ cc
+-- an entry: two bytes and a number
+pub stores-entry : (l : List ℕ) (i : ℕ) (e : Entry)
+    → sets (set (set l i (e .target)) (i + 1) (e .right)) (i + 2) (bytes2 (e .left)) ≡ sets l i (bytesOf e)
+unfolding bytesOf
+stores-entry l i e = simp towards-suc
 
 -- a run of stores behind a front
 sets-behind : (p t vs : List ℕ) (n : ℕ) → length p ≡ n → length vs ≤ length t → sets (p ++ t) n vs ≡ p ++ (vs ++ drop (length vs) t)

@@ -1,16 +1,17 @@
 // Not for callers: packing entries one by one, as `packed::pack` has them pass twice: `first_pass` begins, `step` goes on with the entry that is to
 // come, until an answer stands.
-// Relies on the definitions of `model` and on `entries` for 15. Called by `packed`.
-ghost use Prim.Native.Nat.{_+_, _*_, _%_, _≤_, _<_};
+// Relies on the definitions of `model`, on `file` for numbers in a file and on `entries` for 15. Called by `packed`.
+ghost use Prim.Native.Nat.{_+_, _*_, _≤_, _<_};
 ghost use mathlib.Core.Path.{_≡_};
 ghost use mathlib.Core.Bool.{true, false};
 ghost use lib.Dec.{ltb};
 ghost use lib.ListN.{length};
 ghost use lib.Seq.{sets};
-ghost use Rattle.model.specs.Bytes.{bytes4};
 ghost use Rattle.model.specs.Entries.{bytesOf};
 ghost use Rattle.packing.specs.Packing.{Started, Passed, Wrote, Finished, Ready, Stepped};
 use entries::fine_after;
+use file::put_u16;
+use file::put_u32;
 use model::Entry;
 use model::PackAnswer;
 use model::Refusal;
@@ -25,24 +26,6 @@ pub struct Packing {
     pub answer: PackAnswer,
 }
 
-// The lowest byte of a number.
-fn low(x: usize) -> u8
-    ensures { λ r. ⌜ r ≡ x % 256 ⌝ }
-{
-    (x % 256) as u8
-}
-
-// Writes a 4-byte number.
-fn put_u32(out: &mut [u8], at: usize, x: usize)
-    requires { ⌜ at + 4 ≤ length (now out) ⌝ }
-    ensures { λ _. ⌜ now (out .exit) ≡ sets (now (out .entry)) at (bytes4 x) ⌝ }
-{
-    out[at] = low(x);
-    out[at + 1] = low(x / 256);
-    out[at + 2] = low(x / 65536);
-    out[at + 3] = low(x / 16777216);
-}
-
 // Writes an entry.
 fn put_entry(out: &mut [u8], at: usize, e: Entry)
     requires { ⌜ at + 4 ≤ length (now out) ⌝ }
@@ -51,8 +34,7 @@ fn put_entry(out: &mut [u8], at: usize, e: Entry)
     let left = e.left as usize;
     out[at] = e.target;
     out[at + 1] = e.right;
-    out[at + 2] = low(left);
-    out[at + 3] = low(left / 256);
+    put_u16(out, at + 2, left);
 }
 
 // Is the output too short for k entries and the trailer?

@@ -1,4 +1,5 @@
--- Numbers of 2 and 4 bytes: what is written is read back, wherever it stands; what is read, written, is the bytes that stand there.
+-- Numbers of 2 and 4 bytes: what is written is read back, wherever it stands; what is read, written, is the bytes that
+-- stand there.
 use Prim.Native.Nat.{ℕ, zero, suc, _+_, _*_, _/_, _%_, _≤_, _<_}
 use mathlib.Core.Path.{_≡_, refl, sym, ap, _∙_}
 use mathlib.Core.List.{List, [], _∷_, _++_}
@@ -8,8 +9,7 @@ use native.Mathlib.Omega.{arith}
 use lib.ListN.{length, getD, drop}
 use lib.Arith.{digits-div, digits-mod}
 use lib.Seq.{getD-append-add, drop-cons}
-use Rattle.model.specs.Bytes.{byteAt, u16At, u32At, bytes2, bytes4}
-use Rattle.entries.specs.Small.{Bytes}
+use Rattle.model.specs.Bytes.{byteAt, u16At, u32At, bytes2, bytes4, Bytes}
 
 -- a number behind a front is the number without it
 pub byte-after : (xs ys : List ℕ) (i : ℕ) → byteAt (xs ++ ys) (length xs + i) ≡ byteAt ys i
