@@ -99,3 +99,7 @@ drop-four (x ∷ y ∷ z ∷ []) i h = absurd (omega arith)
 drop-four (x ∷ y ∷ z ∷ w ∷ xs) zero h = refl
 drop-four (x ∷ y ∷ z ∷ w ∷ xs) (suc i) h =
     let r = drop-four (y ∷ z ∷ w ∷ xs) i (omega arith) in simp towards-suc (simp towards-suc at r)
+
+-- the bytes from i on are those of the number read there, and the rest
+pub u32-forth : (b : List ℕ) (i : ℕ) → Bytes b → i + 4 ≤ length b → bytes4 (u32At b i) ++ drop (i + 4) b ≡ drop i b
+u32-forth b i s h = rw (bytes4-of-u32 b i s) (sym (drop-four b i h))

@@ -11,7 +11,7 @@ use Rattle.columns.proofs.Test.{ifEq-yes, ifEq-no, is-if-eq, is-if-ne}
 use Rattle.model.specs.Calls.{runAfter}
 use Rattle.model.specs.Refusal.{number}
 use Rattle.model.specs.Reply.{answered, refused, entriesReply}
-use Rattle.model.specs.Entries.{entryAt, entriesFrom}
+use Rattle.model.specs.Entries.{entryBytes, entryAt, entriesFrom}
 use Rattle.model.specs.Reading.{entriesHeld, countIn, distanceIn, readCode, openMeaning}
 use Rattle.model.specs.Reading.{entriesRead, readFrom, readMeaning, runRead}
 use Rattle.model.specs.declared.Entry.{Entry}
@@ -38,7 +38,8 @@ module _ (b : List ℕ) (from room : ℕ) where
   planned-read {k} {p} {r} q f =
       let o = opened b q in
       let e : entriesHeld b ≡ entriesFrom b k p
-      = ap (λ (n : ℕ). entriesFrom b n (length b - distanceIn b)) (sym (o .count)) ∙ ap (entriesFrom b k) (sym (o .place)) in
+      = ap (λ (n : ℕ). entriesFrom b n (length b - distanceIn b)) (sym (o .count))
+      ∙ ap (entriesFrom b k) (sym (o .place)) in
       let s : readFrom b from room ≡ entriesFrom b (r .count) (r .first)
       = ap (λ (es : List Entry). take room (drop from es)) (ifEq-yes [] (o .sound) ∙ e) ∙ f .entries b in
       record {
@@ -75,15 +76,16 @@ module _ (b : List ℕ) where
   filled-length p run n h =
       omega (arith, length-append (entriesFrom b n p) (drop n run), length-from b n p, length-drop n run)
 
-  set-next : (p : ℕ) (run : List Entry) (n : ℕ) {e : Entry} → n < length run → e ≡ entryAt b (p + 4 * n)
+  set-next : (p : ℕ) (run : List Entry) (n : ℕ) {e : Entry} → n < length run → e ≡ entryAt b (p + entryBytes * n)
       → set (filled p run n) n e ≡ filled p run (suc n)
   unfolding entriesFrom
   set-next p [] n h q = absurd (omega arith)
   set-next p (x ∷ run) zero h q = ap (λ (d : Entry). d ∷ run) (q ∙ ap (entryAt b) (omega arith))
   set-next p (x ∷ run) (suc n) h q =
-      ap (λ (es : List Entry). entryAt b p ∷ es) (set-next (p + 4) run n (omega arith) (q ∙ ap (entryAt b) (omega arith)))
+      ap (λ (es : List Entry). entryAt b p ∷ es)
+      (set-next (p + entryBytes) run n (omega arith) (q ∙ ap (entryAt b) (omega arith)))
 
-  pub filled-next : (p : ℕ) (run : List Entry) (n : ℕ) {e : Entry} → n < length run → e ≡ entryAt b (p + 4 * n)
+  pub filled-next : (p : ℕ) (run : List Entry) (n : ℕ) {e : Entry} → n < length run → e ≡ entryAt b (p + entryBytes * n)
       → set (filled p run n) n e ≡ filled p run (n + 1)
   filled-next p run n h q =
       let m : suc n ≡ n + 1 = omega arith in set-next p run n h q ∙ ap (filled p run) m
@@ -104,4 +106,5 @@ module _ (b : List ℕ) where
 
       go : Dec (readCode b ≡ 0) → filled (r .first) run (r .count) ≡ runRead b from run
       go (yes z) = is-if-eq _ z written
-      go (no m) = is-if-ne _ m (written ∙ ap (λ (ds : List Entry). ds ++ drop (length ds) run) (unread b from (length run) m))
+      go (no m) =
+          is-if-ne _ m (written ∙ ap (λ (ds : List Entry). ds ++ drop (length ds) run) (unread b from (length run) m))

@@ -1,5 +1,5 @@
--- What opening a file answers, ground by ground: 14 by its three tests, then 15, then the list. And back: what an answer
--- tells of the file.
+-- What opening a file answers, ground by ground: 14 by its three tests, then 15, then the list. And back: what an
+-- answer tells of the file.
 use Prim.Native.Nat.{ℕ, _+_, _-_, _*_, _≤_, _<_}
 use mathlib.Core.Path.{_≡_, refl, sym, ap, ap₂, _∙_}
 use mathlib.Core.List.{List, [], _∷_}
@@ -9,50 +9,56 @@ use native.Mathlib.Omega.{arith}
 use lib.ListN.{length, getD}
 use borrow.Author.Tests.{not-true, not-false}
 use Rattle.columns.proofs.Test.{ifEq-yes, ifEq-no, is-if-eq, is-if-ne, is-if-lt, is-if-not-lt}
+use Rattle.model.specs.Refusal.{number}
 use Rattle.model.specs.Reply.{Reply, refused, answered, replyOf}
 use Rattle.model.specs.Entries.{entriesFrom, entriesCode}
+use Rattle.model.specs.Packing.{trailerBytes, distanceOf}
 use Rattle.model.specs.Reading.{entriesHeld, countIn, distanceIn, tailCode, readCode, openMeaning}
+use Rattle.model.specs.declared.Refusal.the-variants.{NoList, BadEntry}
 use Rattle.model.proofs.Grounds.{orElse-left}
 use Rattle.entries.specs.Verdict.{badUnless}
 use Rattle.entries.proofs.Grounds.{else-first, else-second, reply-refused, reply-answered}
-use Rattle.packed.proofs.Trailer.{Listed, listed, lists}
+use Rattle.entries.proofs.Checks.{bad-some}
+use Rattle.packed.proofs.Trailer.{Listed, list-some, listed, lists}
 
 -- 14
-no-list : (b : List ℕ) → 14 ≡ tailCode b → refused 14 ≡ openMeaning b
+no-list : (b : List ℕ) → number NoList ≡ tailCode b → refused (number NoList) ≡ openMeaning b
 unfolding openMeaning readCode
 no-list b e =
-    reply-refused _ (e ∙ sym (else-first _ _ (λ z. let y : _≡_ {A = ℕ} 14 0 = e ∙ z in omega arith))) (λ z. omega arith)
+    reply-refused _ (e ∙ sym (else-first _ _ (λ z. list-some (e ∙ z)))) list-some
 
-pub too-short : (b : List ℕ) → length b < 8 → refused 14 ≡ openMeaning b
+pub too-short : (b : List ℕ) → length b < trailerBytes → refused (number NoList) ≡ openMeaning b
 unfolding tailCode
 too-short b h = no-list b (is-if-lt _ h refl)
 
-pub wrong-distance : (b : List ℕ) {d k : ℕ} → 8 ≤ length b → d ≡ distanceIn b → k ≡ countIn b → (d ≡ 4 * k + 8 → ⊥) → refused 14 ≡ openMeaning b
+pub wrong-distance : (b : List ℕ) {d k : ℕ} → trailerBytes ≤ length b → d ≡ distanceIn b → k ≡ countIn b
+    → (d ≡ distanceOf k → ⊥) → refused (number NoList) ≡ openMeaning b
 unfolding tailCode
 wrong-distance b h p q n =
-    no-list b (is-if-not-lt _ h (is-if-ne _ (λ z. n (p ∙ z ∙ ap (λ (k : ℕ). 4 * k + 8) (sym q))) refl))
+    no-list b (is-if-not-lt _ h (is-if-ne _ (λ z. n (p ∙ z ∙ ap distanceOf (sym q))) refl))
 
-pub too-far : (b : List ℕ) {d k : ℕ} → 8 ≤ length b → d ≡ distanceIn b → k ≡ countIn b → d ≡ 4 * k + 8 → length b < d → refused 14 ≡ openMeaning b
+pub too-far : (b : List ℕ) {d k : ℕ} → trailerBytes ≤ length b → d ≡ distanceIn b → k ≡ countIn b → d ≡ distanceOf k
+    → length b < d → refused (number NoList) ≡ openMeaning b
 unfolding tailCode
 too-far b h p q e l =
     no-list b
-    (is-if-not-lt _ h (is-if-eq _ (sym p ∙ e ∙ ap (λ (k : ℕ). 4 * k + 8) q) (is-if-lt _ (omega arith) refl)))
+    (is-if-not-lt _ h (is-if-eq _ (sym p ∙ e ∙ ap distanceOf q) (is-if-lt _ (omega arith) refl)))
 
 -- 15, and the list
-module _ (b : List ℕ) {d k : ℕ} (t : Bool) (h : 8 ≤ length b) (p : d ≡ distanceIn b) (q : k ≡ countIn b) (e : d ≡ 4 * k + 8)
-    (l : d ≤ length b) (r : badUnless t ≡ entriesCode (entriesFrom b k (length b - d))) where
+module _ (b : List ℕ) {d k : ℕ} (t : Bool) (h : trailerBytes ≤ length b) (p : d ≡ distanceIn b) (q : k ≡ countIn b)
+    (e : d ≡ distanceOf k) (l : d ≤ length b) (r : badUnless t ≡ entriesCode (entriesFrom b k (length b - d))) where
   is-list : tailCode b ≡ 0
   is-list =
-      lists b (record { trailer = h; distance = sym p ∙ e ∙ ap (λ (k : ℕ). 4 * k + 8) q; fits = omega arith })
+      lists b (record { trailer = h; distance = sym p ∙ e ∙ ap distanceOf q; fits = omega arith })
 
   checked : badUnless t ≡ readCode b
   unfolding readCode entriesHeld
   checked =
       r ∙ ap entriesCode (ap₂ (λ (m n : ℕ). entriesFrom b m (length b - n)) q p) ∙ sym (else-second _ _ is-list)
 
-  pub bad-list : not t ≡ true → refused 15 ≡ openMeaning b
+  pub bad-list : not t ≡ true → refused (number BadEntry) ≡ openMeaning b
   unfolding openMeaning
-  bad-list n = reply-refused _ (sym (ap badUnless (not-true t n)) ∙ checked) (λ z. omega arith)
+  bad-list n = reply-refused _ (sym (ap badUnless (not-true t n)) ∙ checked) bad-some
 
   pub good-list : not t ≡ false → answered (k ∷ (length b - d) ∷ []) ≡ openMeaning b
   unfolding openMeaning
@@ -69,7 +75,8 @@ abbrev numberIn : Reply → ℕ
 numberIn (refused n) = n
 numberIn (answered vs) = 0
 
-pub answered-by : (code : ℕ) (values : List ℕ) {v : List ℕ} → answered v ≡ replyOf code values → (code ≡ 0) × (v ≡ values)
+pub answered-by : (code : ℕ) (values : List ℕ) {v : List ℕ} → answered v ≡ replyOf code values
+    → (code ≡ 0) × (v ≡ values)
 unfolding replyOf
 answered-by code values {v} p = go (ℕ-discrete code 0)
   where
@@ -94,7 +101,7 @@ pub record Opened (b : List ℕ) (k first : ℕ) : Type 0 where
   pub sound : readCode b ≡ 0
   pub count : k ≡ countIn b
   pub place : first ≡ length b - distanceIn b
-  pub inside : first + 4 * k + 8 ≡ length b
+  pub inside : first + distanceOf k ≡ length b
 
 pub opened : (b : List ℕ) {k first : ℕ} → answered (k ∷ first ∷ []) ≡ openMeaning b → Opened b k first
 unfolding openMeaning readCode

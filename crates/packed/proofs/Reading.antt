@@ -66,7 +66,8 @@ module _ (f : RefT (List ℕ)) (r : Reader) (h : Begun f r) where
   reply (suc n) = reply n
 
   held : (n : ℕ) → entriesBy (after n r .answer) (now (after n r .list)) ≡ entriesRead (now f)
-  held n = ap (λ (g : RefT (List ℕ)). entriesBy (after n r .answer) (now g)) (over n) ∙ entries-by (now f) (after n r .answer) (reply n)
+  held n = ap (λ (g : RefT (List ℕ)). entriesBy (after n r .answer) (now g)) (over n)
+      ∙ entries-by (now f) (after n r .answer) (reply n)
 
   position : (n : ℕ) → after n r .at ≡ min n (length (entriesRead (now f)))
   position zero = h .first ∙ omega arith
@@ -82,11 +83,13 @@ module _ (f : RefT (List ℕ)) (r : Reader) (h : Begun f r) where
         entries = answers;
         ends = λ n l. answers n ∙ read-past (entriesRead (now f)) n l;
         opened = reply;
-        front = λ n. ap (λ (g : RefT (List ℕ)). frontBy (after n r .answer) (now g)) (over n) ∙ front-by (now f) (after n r .answer) (reply n);
+        front = λ n. ap (λ (g : RefT (List ℕ)). frontBy (after n r .answer) (now g)) (over n)
+            ∙ front-by (now f) (after n r .answer) (reply n);
       }
 
 -- the reader of a refused file and that of an accepted one, an empty list for one, differ in what `open` answered
-pub refused-differs : (f g : RefT (List ℕ)) (r s : Reader) → Begun f r → Begun g s → (readCode (now f) ≡ 0 → ⊥) → readCode (now g) ≡ 0
+pub refused-differs : (f g : RefT (List ℕ)) (r s : Reader) → Begun f r → Begun g s → (readCode (now f) ≡ 0 → ⊥)
+    → readCode (now g) ≡ 0
     → r .answer ≡ s .answer → ⊥
 unfolding openMeaning replyOf
 refused-differs f g r s h k n e p =

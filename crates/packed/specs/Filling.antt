@@ -4,7 +4,7 @@ use mathlib.Core.Path.{_≡_}
 use mathlib.Core.List.{List}
 use lib.ListN.{length}
 use Rattle.model.specs.Reply.{entriesReply}
-use Rattle.model.specs.Entries.{entriesFrom}
+use Rattle.model.specs.Entries.{entryBytes, entriesFrom}
 use Rattle.model.specs.Reading.{readFrom, readMeaning}
 use Rattle.unpacking.specs.declared.Plan.{Plan}
 
@@ -13,4 +13,4 @@ pub record Planned (b : List ℕ) (from room : ℕ) (r : Plan) : Type 0 where
   pub reply : entriesReply (r .answer) ≡ readMeaning b from room
   pub entries : readFrom b from room ≡ entriesFrom b (r .count) (r .first)
   pub fits : r .count ≤ room
-  pub inside : r .first + 4 * r .count ≤ length b
+  pub inside : r .first + entryBytes * r .count ≤ length b

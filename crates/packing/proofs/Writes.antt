@@ -1,5 +1,5 @@
 -- What is written: an entry's bytes, an entry behind those before it, and the trailer behind all.
-use Prim.Native.Nat.{ℕ, zero, suc, _+_, _-_, _*_, _/_, _%_, _≤_, _<_}
+use Prim.Native.Nat.{ℕ, _+_, _*_, _≤_, _<_}
 use mathlib.Core.Path.{_≡_, refl, sym, ap, _∙_}
 use mathlib.Core.List.{List, [], _∷_, _++_, append-assoc, append-nil}
 use native.Mathlib.Numerals.{add-one, towards-suc}
@@ -8,10 +8,11 @@ use lib.ListN.{length, length-append, length-take, length-drop, getD, set, take,
 use lib.Seq.{sets, sets-eq, take-append-seam, drop-append-add, drop-drop, take-suc, take-all, length-take-le}
 use Rattle.model.specs.Bytes.{bytes2, bytes4}
 use Rattle.model.specs.Entry.{entry}
-use Rattle.model.specs.Entries.{bytesOf, entriesBytes}
-use Rattle.model.specs.Packing.{packed}
+use Rattle.model.specs.Entries.{entryBytes, bytesOf, entriesBytes}
+use Rattle.model.specs.Packing.{trailerBytes, distanceOf, packed}
 use Rattle.model.specs.declared.Entry.{Entry}
 use Rattle.entries.proofs.Entries.{length-entries}
+use Rattle.packing.specs.Packing.{withTrailer}
 
 -- an entry: two bytes and a number
 pub stores-entry : (l : List ℕ) (i : ℕ) (e : Entry)
@@ -20,7 +21,8 @@ unfolding bytesOf
 stores-entry l i e = simp towards-suc
 
 -- a run of stores behind a front
-sets-behind : (p t vs : List ℕ) (n : ℕ) → length p ≡ n → length vs ≤ length t → sets (p ++ t) n vs ≡ p ++ (vs ++ drop (length vs) t)
+sets-behind : (p t vs : List ℕ) (n : ℕ) → length p ≡ n → length vs ≤ length t
+    → sets (p ++ t) n vs ≡ p ++ (vs ++ drop (length vs) t)
 sets-behind p t vs n e h =
     rw (← e)
     (sets-eq vs (p ++ t) (length p) (omega (arith, length-append p t))
@@ -40,42 +42,47 @@ bytes-more : (es : List Entry) (i : ℕ) → i < length es
     → entriesBytes (take (i + 1) es) ≡ entriesBytes (take i es) ++ bytesOf (getD es i (entry 0 0 0))
 bytes-more es i h =
     rw (add-one i, take-suc es i (entry 0 0 0) h)
-    (bytes-append (take i es) (getD es i (entry 0 0 0) ∷ []) ∙ ap (λ (l : List ℕ). entriesBytes (take i es) ++ l) (bytes-one (getD es i (entry 0 0 0))))
+    (bytes-append (take i es) (getD es i (entry 0 0 0) ∷ [])
+    ∙ ap (λ (l : List ℕ). entriesBytes (take i es) ++ l) (bytes-one (getD es i (entry 0 0 0))))
 
-bytes-length : (es : List Entry) (i : ℕ) → i ≤ length es → length (entriesBytes (take i es)) ≡ 4 * i
-bytes-length es i h = length-entries (take i es) ∙ ap (λ (n : ℕ). 4 * n) (length-take-le i es h)
+bytes-length : (es : List Entry) (i : ℕ) → i ≤ length es → length (entriesBytes (take i es)) ≡ entryBytes * i
+bytes-length es i h = length-entries (take i es) ∙ ap (λ (n : ℕ). entryBytes * n) (length-take-le i es h)
 
 -- one more entry is written
-pub writes-entry : (es : List Entry) (o out : List ℕ) (i : ℕ) {e : Entry} → i < length es → 4 * length es ≤ length o
-    → e ≡ getD es i (entry 0 0 0) → out ≡ entriesBytes (take i es) ++ drop (4 * i) o
-    → sets out (4 * i) (bytesOf e) ≡ entriesBytes (take (i + 1) es) ++ drop (4 * (i + 1)) o
+pub writes-entry : (es : List Entry) (o out : List ℕ) (i : ℕ) {e : Entry} → i < length es
+    → entryBytes * length es ≤ length o
+    → e ≡ getD es i (entry 0 0 0) → out ≡ entriesBytes (take i es) ++ drop (entryBytes * i) o
+    → sets out (entryBytes * i) (bytesOf e) ≡ entriesBytes (take (i + 1) es) ++ drop (entryBytes * (i + 1)) o
 unfolding bytesOf bytes2
 writes-entry es o out i {e} h room p q =
-    let s : 4 * i + 4 ≡ 4 * (i + 1) = omega arith in
-    rw (q, p, bytes-more es i h, ← s, ← drop-drop 4 (4 * i) o)
-    (sets-behind (entriesBytes (take i es)) (drop (4 * i) o) (bytesOf (getD es i (entry 0 0 0))) (4 * i) (bytes-length es i (omega arith))
-    (omega (arith, length-drop (4 * i) o))
-    ∙ sym (append-assoc (entriesBytes (take i es)) (bytesOf (getD es i (entry 0 0 0))) (drop 4 (drop (4 * i) o))))
+    let s : entryBytes * i + entryBytes ≡ entryBytes * (i + 1) = omega arith in
+    rw (q, p, bytes-more es i h, ← s, ← drop-drop entryBytes (entryBytes * i) o)
+    (sets-behind (entriesBytes (take i es)) (drop (entryBytes * i) o) (bytesOf (getD es i (entry 0 0 0)))
+    (entryBytes * i)
+    (bytes-length es i (omega arith)) (omega (arith, length-drop (entryBytes * i) o))
+    ∙ sym (append-assoc (entriesBytes (take i es)) (bytesOf (getD es i (entry 0 0 0)))
+    (drop entryBytes (drop (entryBytes * i) o))))
 
--- the trailer is written behind all
-pub writes-trailer : (es : List Entry) (o out : List ℕ) (k : ℕ) → length es ≡ k → 4 * k + 8 ≤ length o
-    → out ≡ entriesBytes es ++ drop (4 * k) o
-    → sets (sets out (4 * k) (bytes4 k)) (4 * k + 4) (bytes4 (4 * k + 8)) ≡ packed es ++ drop (4 * k + 8) o
+-- the trailer is written behind all: the count behind the entries, and the distance behind both
+pub writes-trailer : (es : List Entry) (o out : List ℕ) (k : ℕ) → length es ≡ k → distanceOf k ≤ length o
+    → out ≡ entriesBytes es ++ drop (entryBytes * k) o → withTrailer out k ≡ packed es ++ drop (distanceOf k) o
 unfolding packed bytes4
 writes-trailer es o out k e h q =
-    let long : length (entriesBytes es) ≡ 4 * k = length-entries es ∙ ap (λ (n : ℕ). 4 * n) e in
-    let l = length-drop (4 * k) o in
-    let one = sets-behind (entriesBytes es) (drop (4 * k) o) (bytes4 k) (4 * k) long (omega arith) in
-    let two = sets-behind (entriesBytes es ++ bytes4 k) (drop 4 (drop (4 * k) o)) (bytes4 (4 * k + 8)) (4 * k + 4)
-    (omega (arith, length-append (entriesBytes es) (bytes4 k))) (omega (arith, length-drop 4 (drop (4 * k) o))) in
-    let s : 4 * k + 4 + 4 ≡ 4 * k + 8 = omega arith in
-    let rest : drop 4 (drop 4 (drop (4 * k) o)) ≡ drop (4 * k + 8) o =
-    drop-drop 4 4 (drop (4 * k) o) ∙ drop-drop 8 (4 * k) o in
-    ap (λ (l : List ℕ). sets (sets l (4 * k) (bytes4 k)) (4 * k + 4) (bytes4 (4 * k + 8))) q
-    ∙ ap (λ (l : List ℕ). sets l (4 * k + 4) (bytes4 (4 * k + 8)))
-    (one ∙ sym (append-assoc (entriesBytes es) (bytes4 k) (drop 4 (drop (4 * k) o))))
+    let long : length (entriesBytes es) ≡ entryBytes * k = length-entries es ∙ ap (λ (n : ℕ). entryBytes * n) e in
+    let l = length-drop (entryBytes * k) o in
+    let one = sets-behind (entriesBytes es) (drop (entryBytes * k) o) (bytes4 k) (entryBytes * k) long (omega arith) in
+    let two =
+    sets-behind (entriesBytes es ++ bytes4 k) (drop 4 (drop (entryBytes * k) o)) (bytes4 (distanceOf k))
+    (entryBytes * k + 4)
+    (omega (arith, length-append (entriesBytes es) (bytes4 k)))
+    (omega (arith, length-drop 4 (drop (entryBytes * k) o))) in
+    let rest : drop 4 (drop 4 (drop (entryBytes * k) o)) ≡ drop (distanceOf k) o =
+    drop-drop 4 4 (drop (entryBytes * k) o) ∙ drop-drop trailerBytes (entryBytes * k) o in
+    ap (λ (l : List ℕ). withTrailer l k) q
+    ∙ ap (λ (l : List ℕ). sets l (entryBytes * k + 4) (bytes4 (distanceOf k)))
+    (one ∙ sym (append-assoc (entriesBytes es) (bytes4 k) (drop 4 (drop (entryBytes * k) o))))
     ∙ two
-    ∙ ap (λ (l : List ℕ). (entriesBytes es ++ bytes4 k) ++ (bytes4 (4 * k + 8) ++ l)) rest
-    ∙ append-assoc (entriesBytes es) (bytes4 k) (bytes4 (4 * k + 8) ++ drop (4 * k + 8) o)
-    ∙ sym (append-assoc (entriesBytes es) (bytes4 k ++ bytes4 (4 * k + 8)) (drop (4 * k + 8) o))
-    ∙ ap (λ (n : ℕ). (entriesBytes es ++ (bytes4 n ++ bytes4 (4 * n + 8))) ++ drop (4 * k + 8) o) (sym e)
+    ∙ ap (λ (l : List ℕ). (entriesBytes es ++ bytes4 k) ++ (bytes4 (distanceOf k) ++ l)) rest
+    ∙ append-assoc (entriesBytes es) (bytes4 k) (bytes4 (distanceOf k) ++ drop (distanceOf k) o)
+    ∙ sym (append-assoc (entriesBytes es) (bytes4 k ++ bytes4 (distanceOf k)) (drop (distanceOf k) o))
+    ∙ ap (λ (n : ℕ). (entriesBytes es ++ (bytes4 n ++ bytes4 (distanceOf n))) ++ drop (distanceOf k) o) (sym e)

@@ -8,7 +8,7 @@ use lib.ListN.{length, take}
 use borrow.Author.Tests.{not-true, not-false}
 use Rattle.columns.specs.Test.{pick}
 use Rattle.columns.proofs.Test.{ifLt-yes, ifLt-no}
-use Rattle.model.specs.Entries.{entryAt}
+use Rattle.model.specs.Entries.{entryBytes, entryAt}
 use Rattle.model.specs.Reading.{countIn, distanceIn, entriesHeld, frontOf, readAt}
 use Rattle.model.specs.declared.Entry.{Entry}
 use Rattle.model.specs.declared.OpenAnswer.{OpenAnswer}
@@ -47,13 +47,15 @@ module _ (a : OpenAnswer) (b : List ℕ) (t : Bool) (e : t ≡ isOpen a) where
     pub opened-end : (i : ℕ) → countIn b ≤ i → End ≡ readAt (entriesBy a b) i
     opened-end i h = reads-end b i h ∙ ap (λ (es : List Entry). readAt es i) all-entries
 
-    pub opened-next : (i : ℕ) {x : Entry} {p : ℕ} → i < countIn b → p ≡ length b - distanceIn b → x ≡ entryAt b (p + 4 * i)
+    pub opened-next : (i : ℕ) {x : Entry} {p : ℕ} → i < countIn b → p ≡ length b - distanceIn b
+        → x ≡ entryAt b (p + entryBytes * i)
         → Next x ≡ readAt (entriesBy a b) i
     opened-next i h q r = reads-next b i h q r ∙ ap (λ (es : List Entry). readAt es i) all-entries
 
     pub opened-moves : (i : ℕ) → i < countIn b → i + 1 ≡ afterIn (entriesBy a b) i
     unfolding afterIn
-    opened-moves i h = sym (ifLt-yes _ (omega (arith, length-in b))) ∙ ap (λ (es : List Entry). afterIn es i) all-entries
+    opened-moves i h = sym (ifLt-yes _ (omega (arith, length-in b)))
+        ∙ ap (λ (es : List Entry). afterIn es i) all-entries
 
     pub opened-stays : (i : ℕ) → countIn b ≤ i → i ≡ afterIn (entriesBy a b) i
     unfolding afterIn

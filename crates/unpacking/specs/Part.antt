@@ -3,7 +3,7 @@ use Prim.Native.Nat.{ℕ, _+_, _*_, _≤_}
 use mathlib.Core.Path.{_≡_}
 use mathlib.Core.List.{List}
 use lib.ListN.{take, drop}
-use Rattle.model.specs.Entries.{entriesFrom}
+use Rattle.model.specs.Entries.{entryBytes, entriesFrom}
 use Rattle.model.specs.declared.EntriesAnswer.the-variants.{Read}
 use Rattle.unpacking.specs.declared.Plan.{Plan}
 
@@ -12,4 +12,4 @@ pub record Part (k p from room : ℕ) (r : Plan) : Type 0 where
   pub answer : r .answer ≡ Read (r .count)
   pub entries : (b : List ℕ) → take room (drop from (entriesFrom b k p)) ≡ entriesFrom b (r .count) (r .first)
   pub fits : r .count ≤ room
-  pub inside : r .first + 4 * r .count ≤ p + 4 * k
+  pub inside : r .first + entryBytes * r .count ≤ p + entryBytes * k
