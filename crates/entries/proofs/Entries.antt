@@ -1,58 +1,36 @@
--- Entries as bytes: what is written is read back behind any bytes; what is read, written, is the bytes that stand
+-- Entries one after the other: what is written is read back behind any bytes; what is read, written, is the bytes that stand
 -- there; and the entry at a position of the entries read is the one at that place of the bytes.
-use Prim.Native.Nat.{ℕ, zero, suc, _+_, _-_, _*_, _^_, _≤_, _<_}
+use Prim.Native.Nat.{ℕ, zero, suc, _+_, _-_, _*_, _≤_, _<_}
 use mathlib.Core.Path.{_≡_, refl, sym, ap, _∙_}
 use mathlib.Core.List.{List, [], _∷_, _++_, append-assoc}
 use native.Mathlib.Nat.{add-assoc}
 use native.Mathlib.Omega.{arith}
-use lib.ListN.{length, drop, List·getD-eq-default}
-use Rattle.file.proofs.Past.{u16-past}
-use Rattle.file.proofs.Numbers.{byte-after, u16-after, u16-of-bytes2, bytes2-of-u16, drop-four}
-use Rattle.columns.specs.Bound.{columnBound}
-use Rattle.model.specs.Entry.{entry}
-use Rattle.model.specs.Bytes.{u16At, bytes2, Bytes}
+use lib.ListN.{length, length-append, drop}
+use Rattle.model.specs.Bytes.{Bytes}
 use Rattle.model.specs.Entries.{entryBytes, bytesOf, entryAt, entriesBytes, entriesFrom}
 use Rattle.model.specs.Reading.{entriesHeld, countIn, distanceIn, readAt}
 use Rattle.model.specs.declared.Entry.{Entry}
 use Rattle.model.specs.declared.ReadAnswer.the-variants.{Next, End}
 use Rattle.entries.specs.Small.{Small}
+use Rattle.entries.proofs.OneEntry.{length-entry, entry-after, entry-back, entry-forth}
 
 -- behind a front
-entry-after : (xs ys : List ℕ) (i : ℕ) → entryAt (xs ++ ys) (length xs + i) ≡ entryAt ys i
-unfolding entryAt
-entry-after xs ys i = simp (add-assoc, byte-after xs ys, u16-after)
-
 pub entries-after : (xs ys : List ℕ) (n i : ℕ) → entriesFrom (xs ++ ys) n (length xs + i) ≡ entriesFrom ys n i
 unfolding entriesFrom
 entries-after xs ys zero i = refl
 entries-after xs ys (suc n) i = simp (add-assoc, entry-after xs ys i, entries-after xs ys n (i + entryBytes))
 
--- past the end
-pub entry-past : (b : List ℕ) (i : ℕ) → length b ≤ i → entry 0 0 0 ≡ entryAt b i
-unfolding entryAt
-entry-past b i h =
-    cc (
-      List·getD-eq-default b 0 h,
-      List·getD-eq-default b 0 {n = i + 1} (omega arith),
-      u16-past b (i + 2) (omega arith),
-    )
-
 -- what is written is read back
-left-back : (x y l : ℕ) (ys : List ℕ) → l < 2 ^ columnBound → u16At (x ∷ y ∷ bytes2 l ++ ys) 2 ≡ l
-left-back x y l ys h = u16-after (x ∷ y ∷ []) (bytes2 l ++ ys) 0 ∙ u16-of-bytes2 l ys h
-
-entry-back : (e : Entry) (ys : List ℕ) → e .left < 2 ^ columnBound → entryAt (bytesOf e ++ ys) 0 ≡ e
-unfolding entryAt bytesOf
-entry-back e ys h = rw (left-back (e .target) (e .right) (e .left) ys h)
-
 pub length-entries : (es : List Entry) → length (entriesBytes es) ≡ entryBytes * length es
-unfolding entriesBytes bytesOf bytes2
+unfolding entriesBytes
 length-entries [] = refl
-length-entries (e ∷ es) = omega (arith, length-entries es)
+length-entries (e ∷ es) =
+    omega (arith, length-append (bytesOf e) (entriesBytes es), length-entry e, length-entries es)
 
 next-entries : (e : Entry) (ys : List ℕ) (n : ℕ) → entriesFrom (bytesOf e ++ ys) n entryBytes ≡ entriesFrom ys n 0
-unfolding bytesOf bytes2
-next-entries e ys n = entries-after (bytesOf e) ys n 0
+next-entries e ys n =
+    let p : entryBytes ≡ length (bytesOf e) + 0 = omega (arith, length-entry e) in
+    ap (entriesFrom (bytesOf e ++ ys) n) p ∙ entries-after (bytesOf e) ys n 0
 
 pub entries-back : (es : List Entry) (ys : List ℕ) → Small es → entriesFrom (entriesBytes es ++ ys) (length es) 0 ≡ es
 unfolding entriesFrom entriesBytes
@@ -66,11 +44,6 @@ entries-back (e ∷ es) ys s =
     ))
 
 -- what is read, written
-entry-forth : (b : List ℕ) (i : ℕ) → Bytes b → i + entryBytes ≤ length b
-    → bytesOf (entryAt b i) ++ drop (i + entryBytes) b ≡ drop i b
-unfolding bytesOf entryAt
-entry-forth b i s h = rw (bytes2-of-u16 b (i + 2) s, add-assoc i 2 1) (sym (drop-four b i h))
-
 pub entries-forth : (b : List ℕ) (n i : ℕ) → Bytes b → i + entryBytes * n ≤ length b
     → entriesBytes (entriesFrom b n i) ++ drop (i + entryBytes * n) b ≡ drop i b
 unfolding entriesBytes entriesFrom

@@ -1,3 +1,4 @@
 pub mod Grounds
+pub mod OneEntry
 pub mod Entries
 pub mod Checks
