@@ -1,12 +1,11 @@
 -- The checks of 15 step by step: one entry, two neighbours, and the entries of a file from a position on.
-use Prim.Native.Nat.{ℕ, zero, suc, _+_, _-_, _*_, _≤_, _<_}
+use Prim.Native.Nat.{ℕ, zero, suc, _+_, _-_, _≤_, _<_}
 use mathlib.Core.Path.{_≡_, refl, sym, ap, ap₂, _∙_}
-use mathlib.Core.List.{List, [], _∷_, _++_}
+use mathlib.Core.List.{List, [], _∷_}
 use mathlib.Core.Bool.{Bool, true, false, not, _&&_, _||_}
 use native.Mathlib.Numerals.{sub-one}
 use native.Mathlib.Omega.{arith}
 use lib.Dec.{ltb, eqb}
-use lib.ListN.{length}
 use borrow.Author.Tests.{eq-eqb, ne-eqb, le-ltb, not-true, not-false}
 use Rattle.columns.specs.Bound.{columnBound}
 use Rattle.columns.specs.Set.{memberOf, sizeOf}
@@ -89,52 +88,55 @@ module _ (e f : Entry) (g : e .target ≡ f .target) where
       (then-rest (sizeOf (e .left)) (sizeOf (f .left)) (ap sizeOf h) (then-rest (e .left) (f .left) h refl))
 
 -- what a test of the entry at i found
-pub bad-at : (b : List ℕ) (i : ℕ) {e : Entry} (t : Bool) → e ≡ entryAt b i → badUnless t ≡ entryCode e → not t ≡ true
-    → number BadEntry ≡ entryCode (entryAt b i)
-bad-at b i t p q h = sym (ap badUnless (not-true t h)) ∙ q ∙ ap entryCode p
+pub bad-at : (file : List ℕ) (i : ℕ) {e : Entry} (t : Bool) → e ≡ entryAt file i → badUnless t ≡ entryCode e
+    → not t ≡ true
+    → number BadEntry ≡ entryCode (entryAt file i)
+bad-at file i t p q h = sym (ap badUnless (not-true t h)) ∙ q ∙ ap entryCode p
 
-pub fine-at : (b : List ℕ) (i : ℕ) {e : Entry} (t : Bool) → e ≡ entryAt b i → badUnless t ≡ entryCode e → not t ≡ false
-    → 0 ≡ entryCode (entryAt b i)
-fine-at b i t p q h = sym (ap badUnless (not-false t h)) ∙ q ∙ ap entryCode p
+pub fine-at : (file : List ℕ) (i : ℕ) {e : Entry} (t : Bool) → e ≡ entryAt file i → badUnless t ≡ entryCode e
+    → not t ≡ false
+    → 0 ≡ entryCode (entryAt file i)
+fine-at file i t p q h = sym (ap badUnless (not-false t h)) ∙ q ∙ ap entryCode p
 
-pub later-at : (b : List ℕ) (i : ℕ) (e : Entry) {f : Entry} {t : Bool} → f ≡ entryAt b i → t ≡ earlier e f
-    → not t ≡ false → true ≡ earlier e (entryAt b i)
-later-at b i e {t = t} p q h = sym (not-false t h) ∙ q ∙ ap (earlier e) p
+pub later-at : (file : List ℕ) (i : ℕ) (e : Entry) {f : Entry} {t : Bool} → f ≡ entryAt file i → t ≡ earlier e f
+    → not t ≡ false → true ≡ earlier e (entryAt file i)
+later-at file i e {t = t} p q h = sym (not-false t h) ∙ q ∙ ap (earlier e) p
 
-pub not-later-at : (b : List ℕ) (i : ℕ) (e : Entry) {f : Entry} {t : Bool} → f ≡ entryAt b i → t ≡ earlier e f
-    → not t ≡ true → false ≡ earlier e (entryAt b i)
-not-later-at b i e {t = t} p q h = sym (not-true t h) ∙ q ∙ ap (earlier e) p
+pub not-later-at : (file : List ℕ) (i : ℕ) (e : Entry) {f : Entry} {t : Bool} → f ≡ entryAt file i → t ≡ earlier e f
+    → not t ≡ true → false ≡ earlier e (entryAt file i)
+not-later-at file i e {t = t} p q h = sym (not-true t h) ∙ q ∙ ap (earlier e) p
 
 -- the entries of a file from a position on
-from-step : (b : List ℕ) (n i : ℕ) → 0 < n → entriesFrom b n i ≡ entryAt b i ∷ entriesFrom b (n - 1) (i + entryBytes)
+from-step : (file : List ℕ) (n i : ℕ) → 0 < n
+    → entriesFrom file n i ≡ entryAt file i ∷ entriesFrom file (n - 1) (i + entryBytes)
 unfolding entriesFrom
-from-step b zero i h = absurd (omega arith)
-from-step b (suc n) i h = simp sub-one
+from-step file zero i h = absurd (omega arith)
+from-step file (suc n) i h = simp sub-one
 
-pub from-none : (b : List ℕ) (n i : ℕ) → n ≡ 0 → 0 ≡ entriesCode (entriesFrom b n i)
+pub from-none : (file : List ℕ) (n i : ℕ) → n ≡ 0 → 0 ≡ entriesCode (entriesFrom file n i)
 unfolding entriesFrom entriesCode
-from-none b n i e = ap (λ (k : ℕ). entriesCode (entriesFrom b k i)) (sym e)
+from-none file n i e = ap (λ (k : ℕ). entriesCode (entriesFrom file k i)) (sym e)
 
-pub first-bad : (b : List ℕ) (n i : ℕ) → 0 < n → number BadEntry ≡ entryCode (entryAt b i)
-    → number BadEntry ≡ entriesCode (entriesFrom b n i)
+pub first-bad : (file : List ℕ) (n i : ℕ) → 0 < n → number BadEntry ≡ entryCode (entryAt file i)
+    → number BadEntry ≡ entriesCode (entriesFrom file n i)
 unfolding entriesCode
-first-bad b n i h e =
-    rw (from-step b n i h) (e ∙ sym (else-first _ _ (λ z. bad-some (e ∙ z))))
+first-bad file n i h e =
+    rw (from-step file n i h) (e ∙ sym (else-first _ _ (λ z. bad-some (e ∙ z))))
 
-pub first-fine : (b : List ℕ) (n i : ℕ) {e : Entry} → 0 < n → e ≡ entryAt b i → 0 ≡ entryCode (entryAt b i)
-    → entriesCode (entriesFrom b n i) ≡ restCode e (entriesFrom b (n - 1) (i + entryBytes))
+pub first-fine : (file : List ℕ) (n i : ℕ) {e : Entry} → 0 < n → e ≡ entryAt file i → 0 ≡ entryCode (entryAt file i)
+    → entriesCode (entriesFrom file n i) ≡ restCode e (entriesFrom file (n - 1) (i + entryBytes))
 unfolding entriesCode
-first-fine b n i h p e = rw (from-step b n i h, p) (else-second _ _ (sym e))
+first-fine file n i h p e = rw (from-step file n i h, p) (else-second _ _ (sym e))
 
-pub rest-none : (b : List ℕ) (e : Entry) (n i : ℕ) → n ≡ 0 → 0 ≡ restCode e (entriesFrom b n i)
+pub rest-none : (file : List ℕ) (e : Entry) (n i : ℕ) → n ≡ 0 → 0 ≡ restCode e (entriesFrom file n i)
 unfolding entriesFrom restCode
-rest-none b e n i z = ap (λ (k : ℕ). restCode e (entriesFrom b k i)) (sym z)
+rest-none file e n i z = ap (λ (k : ℕ). restCode e (entriesFrom file k i)) (sym z)
 
-pub next-bad : (b : List ℕ) (e : Entry) (n i : ℕ) → 0 < n → number BadEntry ≡ entryCode (entryAt b i)
-    → number BadEntry ≡ restCode e (entriesFrom b n i)
+pub next-bad : (file : List ℕ) (e : Entry) (n i : ℕ) → 0 < n → number BadEntry ≡ entryCode (entryAt file i)
+    → number BadEntry ≡ restCode e (entriesFrom file n i)
 unfolding restCode
-next-bad b e n i h p =
-    rw (from-step b n i h) (p ∙ sym (else-first _ _ (λ z. bad-some (p ∙ z))))
+next-bad file e n i h p =
+    rw (from-step file n i h) (p ∙ sym (else-first _ _ (λ z. bad-some (p ∙ z))))
 
 later-not : (e f : Entry) → false ≡ earlier e f → laterCode e f ≡ number BadEntry
 unfolding laterCode
@@ -144,21 +146,22 @@ later-so : (e f : Entry) → true ≡ earlier e f → laterCode e f ≡ 0
 unfolding laterCode
 later-so e f p = ap (λ (u : Bool). pick u 0 (number BadEntry)) (sym p)
 
-pub next-not-later : (b : List ℕ) (e : Entry) (n i : ℕ) → 0 < n → 0 ≡ entryCode (entryAt b i)
-    → false ≡ earlier e (entryAt b i)
-    → number BadEntry ≡ restCode e (entriesFrom b n i)
+pub next-not-later : (file : List ℕ) (e : Entry) (n i : ℕ) → 0 < n → 0 ≡ entryCode (entryAt file i)
+    → false ≡ earlier e (entryAt file i)
+    → number BadEntry ≡ restCode e (entriesFrom file n i)
 unfolding restCode
-next-not-later b e n i h p q =
-    let l = later-not e (entryAt b i) q in
-    rw (from-step b n i h)
+next-not-later file e n i h p q =
+    let l = later-not e (entryAt file i) q in
+    rw (from-step file n i h)
     (sym (else-second _ _ (sym p) ∙ else-first _ _ (λ z. bad-some (sym l ∙ z)) ∙ l))
 
-pub next-fine : (b : List ℕ) (e : Entry) (n i : ℕ) {f : Entry} → 0 < n → f ≡ entryAt b i → 0 ≡ entryCode (entryAt b i)
-    → true ≡ earlier e (entryAt b i)
-    → restCode e (entriesFrom b n i) ≡ restCode f (entriesFrom b (n - 1) (i + entryBytes))
+pub next-fine : (file : List ℕ) (e : Entry) (n i : ℕ) {f : Entry} → 0 < n → f ≡ entryAt file i
+    → 0 ≡ entryCode (entryAt file i)
+    → true ≡ earlier e (entryAt file i)
+    → restCode e (entriesFrom file n i) ≡ restCode f (entriesFrom file (n - 1) (i + entryBytes))
 unfolding restCode
-next-fine b e n i h r p q =
-    rw (from-step b n i h, r) (else-second _ _ (sym p) ∙ else-second _ _ (later-so e (entryAt b i) q))
+next-fine file e n i h r p q =
+    rw (from-step file n i h, r) (else-second _ _ (sym p) ∙ else-second _ _ (later-so e (entryAt file i) q))
 
 not-bad : (t : Bool) → badUnless t ≡ pick t 0 (number BadEntry)
 not-bad true = refl

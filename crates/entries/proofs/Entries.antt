@@ -1,5 +1,5 @@
--- Entries one after the other: what is written is read back behind any bytes; what is read, written, is the bytes that stand
--- there; and the entry at a position of the entries read is the one at that place of the bytes.
+-- Entries one after the other: what is written is read back behind any bytes; what is read, written, is the bytes
+-- that stand there; and the entry at a position of the entries read is the one at that place of the bytes.
 use Prim.Native.Nat.{ℕ, zero, suc, _+_, _-_, _*_, _≤_, _<_}
 use mathlib.Core.Path.{_≡_, refl, sym, ap, _∙_}
 use mathlib.Core.List.{List, [], _∷_, _++_, append-assoc}
@@ -44,26 +44,27 @@ entries-back (e ∷ es) ys s =
     ))
 
 -- what is read, written
-pub entries-forth : (b : List ℕ) (n i : ℕ) → Bytes b → i + entryBytes * n ≤ length b
-    → entriesBytes (entriesFrom b n i) ++ drop (i + entryBytes * n) b ≡ drop i b
+pub entries-forth : (file : List ℕ) (n i : ℕ) → Bytes file → i + entryBytes * n ≤ length file
+    → entriesBytes (entriesFrom file n i) ++ drop (i + entryBytes * n) file ≡ drop i file
 unfolding entriesBytes entriesFrom
-entries-forth b zero i s h = let e : i + 0 ≡ i = omega arith in ap (λ (k : ℕ). drop k b) e
-entries-forth b (suc n) i s h =
+entries-forth file zero i s h = let e : i + 0 ≡ i = omega arith in ap (λ (k : ℕ). drop k file) e
+entries-forth file (suc n) i s h =
     let e : i + entryBytes * suc n ≡ i + entryBytes + entryBytes * n = omega arith in
-    rw (append-assoc, e, entries-forth b n (i + entryBytes) s (omega arith)) (entry-forth b i s (omega arith))
+    rw (append-assoc, e, entries-forth file n (i + entryBytes) s (omega arith)) (entry-forth file i s (omega arith))
 
-pub length-from : (b : List ℕ) (n i : ℕ) → length (entriesFrom b n i) ≡ n
+pub length-from : (file : List ℕ) (n i : ℕ) → length (entriesFrom file n i) ≡ n
 unfolding entriesFrom
-length-from b zero i = refl
-length-from b (suc n) i = ap suc (length-from b n (i + entryBytes))
+length-from file zero i = refl
+length-from file (suc n) i = ap suc (length-from file n (i + entryBytes))
 
 -- the entry at a position
-read-from : (b : List ℕ) (n p i : ℕ) → i < n → readAt (entriesFrom b n p) i ≡ Next (entryAt b (p + entryBytes * i))
+read-from : (file : List ℕ) (n p i : ℕ) → i < n
+    → readAt (entriesFrom file n p) i ≡ Next (entryAt file (p + entryBytes * i))
 unfolding entriesFrom readAt
-read-from b zero p i h = absurd (omega arith)
-read-from b (suc n) p zero h = ap (λ (k : ℕ). Next (entryAt b k)) (omega arith)
-read-from b (suc n) p (suc i) h = read-from b n (p + entryBytes) i (omega arith)
-    ∙ ap (λ (k : ℕ). Next (entryAt b k)) (omega arith)
+read-from file zero p i h = absurd (omega arith)
+read-from file (suc n) p zero h = ap (λ (k : ℕ). Next (entryAt file k)) (omega arith)
+read-from file (suc n) p (suc i) h = read-from file n (p + entryBytes) i (omega arith)
+    ∙ ap (λ (k : ℕ). Next (entryAt file k)) (omega arith)
 
 pub read-past : (es : List Entry) (i : ℕ) → length es ≤ i → readAt es i ≡ End
 unfolding readAt
@@ -71,17 +72,17 @@ read-past [] i h = refl
 read-past (e ∷ es) zero h = absurd (omega arith)
 read-past (e ∷ es) (suc i) h = read-past es i (omega arith)
 
-pub length-in : (b : List ℕ) → length (entriesHeld b) ≡ countIn b
+pub length-in : (file : List ℕ) → length (entriesHeld file) ≡ countIn file
 unfolding entriesHeld
-length-in b = length-from b (countIn b) (length b - distanceIn b)
+length-in file = length-from file (countIn file) (length file - distanceIn file)
 
-pub reads-next : (b : List ℕ) (i : ℕ) {e : Entry} {p : ℕ} → i < countIn b → p ≡ length b - distanceIn b
-    → e ≡ entryAt b (p + entryBytes * i)
-    → Next e ≡ readAt (entriesHeld b) i
+pub reads-next : (file : List ℕ) (i : ℕ) {e : Entry} {p : ℕ} → i < countIn file → p ≡ length file - distanceIn file
+    → e ≡ entryAt file (p + entryBytes * i)
+    → Next e ≡ readAt (entriesHeld file) i
 unfolding entriesHeld
-reads-next b i h q r =
-    ap Next (r ∙ ap (λ (n : ℕ). entryAt b (n + entryBytes * i)) q)
-    ∙ sym (read-from b (countIn b) (length b - distanceIn b) i h)
+reads-next file i h q r =
+    ap Next (r ∙ ap (λ (n : ℕ). entryAt file (n + entryBytes * i)) q)
+    ∙ sym (read-from file (countIn file) (length file - distanceIn file) i h)
 
-pub reads-end : (b : List ℕ) (i : ℕ) → countIn b ≤ i → End ≡ readAt (entriesHeld b) i
-reads-end b i h = sym (read-past (entriesHeld b) i (omega (arith, length-in b)))
+pub reads-end : (file : List ℕ) (i : ℕ) → countIn file ≤ i → End ≡ readAt (entriesHeld file) i
+reads-end file i h = sym (read-past (entriesHeld file) i (omega (arith, length-in file)))

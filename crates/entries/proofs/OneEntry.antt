@@ -24,13 +24,13 @@ unfolding entryAt
 entry-after xs ys i = simp (add-assoc, byte-after xs ys, u16-after)
 
 -- past the end
-pub entry-past : (b : List ℕ) (i : ℕ) → length b ≤ i → entry 0 0 0 ≡ entryAt b i
+pub entry-past : (file : List ℕ) (i : ℕ) → length file ≤ i → entry 0 0 0 ≡ entryAt file i
 unfolding entryAt
-entry-past b i h =
+entry-past file i h =
     cc (
-      List·getD-eq-default b 0 h,
-      List·getD-eq-default b 0 {n = i + 1} (omega arith),
-      u16-past b (i + 2) (omega arith),
+      List·getD-eq-default file 0 h,
+      List·getD-eq-default file 0 {n = i + 1} (omega arith),
+      u16-past file (i + 2) (omega arith),
     )
 
 -- what is written is read back
@@ -42,7 +42,7 @@ unfolding entryAt bytesOf
 entry-back e ys h = rw (left-back (e .target) (e .right) (e .left) ys h)
 
 -- what is read, written
-pub entry-forth : (b : List ℕ) (i : ℕ) → Bytes b → i + entryBytes ≤ length b
-    → bytesOf (entryAt b i) ++ drop (i + entryBytes) b ≡ drop i b
+pub entry-forth : (file : List ℕ) (i : ℕ) → Bytes file → i + entryBytes ≤ length file
+    → bytesOf (entryAt file i) ++ drop (i + entryBytes) file ≡ drop i file
 unfolding bytesOf entryAt
-entry-forth b i s h = rw (bytes2-of-u16 b (i + 2) s, add-assoc i 2 1) (sym (drop-four b i h))
+entry-forth file i s h = rw (bytes2-of-u16 file (i + 2) s, add-assoc i 2 1) (sym (drop-four file i h))

@@ -1,6 +1,6 @@
 -- What the machine's types say of entries: a left side has no bit above the columns. The laws on packed lists ask no
 -- more.
-use Prim.Native.Nat.{ℕ, _^_, _<_}
+use Prim.Native.Nat.{_^_, _<_}
 use mathlib.Core.List.{List, [], _∷_}
 use Rattle.columns.specs.Bound.{columnBound}
 use Rattle.model.specs.declared.Entry.{Entry}

@@ -4,11 +4,11 @@ use Prim.Native.Nat.{ℕ, zero, suc, _+_, _*_, _/_, _%_, _≤_, _<_}
 use mathlib.Core.Path.{_≡_, refl, sym, ap, _∙_}
 use mathlib.Core.List.{List, [], _∷_, _++_}
 use native.Mathlib.Nat.{add-assoc, div-div-eq-div-mul, div-add-mod', mod-eq-of-lt}
-use native.Mathlib.Numerals.{add-one, towards-suc}
+use native.Mathlib.Numerals.{towards-suc}
 use native.Mathlib.Omega.{arith}
-use lib.ListN.{length, getD, drop}
+use lib.ListN.{length, drop}
 use lib.Arith.{digits-div, digits-mod}
-use lib.Seq.{getD-append-add, drop-cons}
+use lib.Seq.{getD-append-add}
 use Rattle.model.specs.Bytes.{byteAt, u16At, u32At, bytes2, bytes4, Bytes}
 
 -- a number behind a front is the number without it

@@ -36,18 +36,18 @@ fine e h =
     }
 
 -- how many left sides there are, how many rights with the row, and so how many entries may stand in a list
-abbrev lefts : ℕ
-lefts = 2 ^ columnBound
+abbrev leftSides : ℕ
+leftSides = 2 ^ columnBound
 
-abbrev rights : ℕ
-rights = suc columnBound
+abbrev rightSides : ℕ
+rightSides = suc columnBound
 
 abbrev pub ranks : ℕ
-ranks = tableBound * (lefts * rights)
+ranks = tableBound * (leftSides * rightSides)
 
 -- an entry's rank among them: by target, then by left in listing order, then by right, the row last
 abbrev rank : Entry → ℕ
-rank e = e .target * (lefts * rights) + rankOf columnBound (e .left) * rights + min (e .right) columnBound
+rank e = e .target * (leftSides * rightSides) + rankOf columnBound (e .left) * rightSides + min (e .right) columnBound
 
 -- ranks grow with the order
 right-grows : (x y : ℕ) → (x ≡ row) ⊎ (x < columnBound) → (y ≡ row) ⊎ (y < columnBound) → x < y
@@ -57,7 +57,8 @@ right-grows x y (inl a) (inr b) h = omega arith
 right-grows x y (inr a) (inl b) h = omega arith
 right-grows x y (inr a) (inr b) h = omega arith
 
-earlier-rank : (e f : Entry) → Fine e → Fine f → e .left < lefts → f .left < lefts → Earlier e f → rank e < rank f
+earlier-rank : (e f : Entry) → Fine e → Fine f → e .left < leftSides → f .left < leftSides → Earlier e f
+    → rank e < rank f
 earlier-rank e f a b s t (inl l) = omega (arith, rank-lt columnBound (e .left) s)
 earlier-rank e f a b s t (inr (q, inl p)) = omega (arith, rank-grows columnBound (e .left) (f .left) s t p)
 earlier-rank e f a b s t (inr (q, inr (p, r))) =
@@ -67,7 +68,7 @@ later : (e f : Entry) → laterCode e f ≡ 0 → Earlier e f
 unfolding laterCode
 later e f h = earlier-is e f .0 (subst T (sym (picked (earlier e f) (number BadEntry) bad-some h)) tt)
 
-rest-bound : (e : Entry) (es : List Entry) → Fine e → e .left < lefts → Small es → restCode e es ≡ 0
+rest-bound : (e : Entry) (es : List Entry) → Fine e → e .left < leftSides → Small es → restCode e es ≡ 0
     → rank e + length es < ranks
 unfolding restCode
 rest-bound e [] a s t h = omega (arith, rank-lt columnBound (e .left) s, a .target)

@@ -19,22 +19,22 @@ use Rattle.packed.specs.declared.Reader.{Reader}
 use Rattle.packed.proofs.Opening.{answered-by, refused-by}
 
 -- a reply says whether there is a ground
-module _ (b : List ℕ) where
-  accepts : {v : List ℕ} → answered v ≡ openMeaning b → readCode b ≡ 0
+module _ (file : List ℕ) where
+  accepts : {v : List ℕ} → answered v ≡ openMeaning file → readCode file ≡ 0
   unfolding openMeaning
-  accepts p = answered-by (readCode b) (countIn b ∷ (length b - distanceIn b) ∷ []) p .0
+  accepts p = answered-by (readCode file) (countIn file ∷ (length file - distanceIn file) ∷ []) p .0
 
-  refuses : {k : ℕ} → refused k ≡ openMeaning b → readCode b ≡ 0 → ⊥
+  refuses : {k : ℕ} → refused k ≡ openMeaning file → readCode file ≡ 0 → ⊥
   unfolding openMeaning
-  refuses p = refused-by (readCode b) (countIn b ∷ (length b - distanceIn b) ∷ []) p .1
+  refuses p = refused-by (readCode file) (countIn file ∷ (length file - distanceIn file) ∷ []) p .1
 
   -- so what may be read by the answer is what may be read of the file
-  pub entries-by : (a : OpenAnswer) → openReply a ≡ openMeaning b → entriesBy a b ≡ entriesRead b
+  pub entries-by : (a : OpenAnswer) → openReply a ≡ openMeaning file → entriesBy a file ≡ entriesRead file
   unfolding entriesBy entriesRead
   entries-by (Opened k n) p = sym (ifEq-yes _ (accepts p))
   entries-by (Refused r) p = sym (ifEq-no _ (refuses p))
 
-  pub front-by : (a : OpenAnswer) → openReply a ≡ openMeaning b → frontBy a b ≡ frontRead b
+  pub front-by : (a : OpenAnswer) → openReply a ≡ openMeaning file → frontBy a file ≡ frontRead file
   unfolding frontBy frontRead
   front-by (Opened k n) p = sym (ifEq-yes _ (accepts p))
   front-by (Refused r) p = sym (ifEq-no _ (refuses p))

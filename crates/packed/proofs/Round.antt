@@ -1,13 +1,13 @@
 -- The round trips: a packed list reads back as its entries and its front, and the entries read from an accepted list
 -- pack into its bytes.
-use Prim.Native.Nat.{ℕ, zero, suc, _+_, _-_, _*_, _≤_, _<_}
-use mathlib.Core.Path.{_≡_, refl, sym, ap, _∙_}
-use mathlib.Core.List.{List, [], _∷_, _++_, append-assoc, append-nil}
+use Prim.Native.Nat.{ℕ, _+_, _-_, _*_, _≤_}
+use mathlib.Core.Path.{_≡_, sym, ap, _∙_}
+use mathlib.Core.List.{List, [], _++_, append-assoc, append-nil}
 use native.Mathlib.Omega.{arith}
-use lib.ListN.{length, length-append, take, drop, take-append-drop}
+use lib.ListN.{length, length-append, drop, take-append-drop}
 use lib.Seq.{take-append-seam, drop-length}
 use Rattle.model.specs.Bytes.{u32At, bytes4, Bytes}
-use Rattle.model.specs.Entries.{entryBytes, entriesBytes, entriesFrom, entriesCode}
+use Rattle.model.specs.Entries.{entryBytes, entriesBytes, entriesCode}
 use Rattle.model.specs.Packing.{trailerBytes, distanceOf, packed}
 use Rattle.model.specs.Reading.{entriesHeld, countIn, distanceIn, frontOf, tailCode, readCode}
 use Rattle.model.specs.declared.Entry.{Entry}
@@ -75,35 +75,42 @@ module _ (front : List ℕ) (es : List Entry) (s : Small es) (h : entriesCode es
   reads-back = record { accepted = read; entries = entries-read; before = front-read }
 
 -- the trailer's bytes
-trailer-forth : (b : List ℕ) → Bytes b → trailerBytes ≤ length b
-    → bytes4 (countIn b) ++ bytes4 (distanceIn b) ≡ drop (length b - trailerBytes) b
+trailer-forth : (file : List ℕ) → Bytes file → trailerBytes ≤ length file
+    → bytes4 (countIn file) ++ bytes4 (distanceIn file) ≡ drop (length file - trailerBytes) file
 unfolding countIn distanceIn
-trailer-forth b s h =
-    let e : length b - trailerBytes + 4 ≡ length b - 4 = omega arith in
-    let d : length b - 4 + 4 ≡ length b = omega arith in
-    let last : bytes4 (u32At b (length b - 4)) ≡ drop (length b - 4) b =
-    sym (append-nil (bytes4 (u32At b (length b - 4))))
-    ∙ sym (ap (λ (l : List ℕ). bytes4 (u32At b (length b - 4)) ++ l) (ap (λ (n : ℕ). drop n b) d ∙ drop-length b))
-    ∙ u32-forth b (length b - 4) s (omega arith) in
-    rw last (rw e at (u32-forth b (length b - trailerBytes) s (omega arith)))
+trailer-forth file s h =
+    let e : length file - trailerBytes + 4 ≡ length file - 4 = omega arith in
+    let d : length file - 4 + 4 ≡ length file = omega arith in
+    let last : bytes4 (u32At file (length file - 4)) ≡ drop (length file - 4) file =
+    sym (append-nil (bytes4 (u32At file (length file - 4))))
+    ∙ sym (ap (λ (l : List ℕ). bytes4 (u32At file (length file - 4)) ++ l)
+    (ap (λ (n : ℕ). drop n file) d ∙ drop-length file))
+    ∙ u32-forth file (length file - 4) s (omega arith) in
+    rw last (rw e at (u32-forth file (length file - trailerBytes) s (omega arith)))
 
-module _ (b : List ℕ) (s : Bytes b) (h : readCode b ≡ 0) where
-  grounds : (tailCode b ≡ 0) × (entriesCode (entriesHeld b) ≡ 0)
+module _ (file : List ℕ) (s : Bytes file) (h : readCode file ≡ 0) where
+  grounds : (tailCode file ≡ 0) × (entriesCode (entriesHeld file) ≡ 0)
   unfolding readCode
-  grounds = no-else (tailCode b) (entriesCode (entriesHeld b)) h
+  grounds = no-else (tailCode file) (entriesCode (entriesHeld file)) h
 
-  forth : packed (entriesHeld b) ≡ drop (length b - distanceIn b) b
+  forth : packed (entriesHeld file) ≡ drop (length file - distanceIn file) file
   unfolding packed entriesHeld
   forth =
-      let l = listed b (grounds .0) in
-      let e : length b - distanceIn b + entryBytes * countIn b ≡ length b - trailerBytes = omega arith in
-      rw (length-from b (countIn b) (length b - distanceIn b), ← l .distance, trailer-forth b s (l .trailer), ← e)
-      (entries-forth b (countIn b) (length b - distanceIn b) s (omega arith))
+      let l = listed file (grounds .0) in
+      let e : length file - distanceIn file + entryBytes * countIn file ≡ length file - trailerBytes = omega arith in
+      rw (
+        length-from file (countIn file) (length file - distanceIn file),
+        ← l .distance,
+        trailer-forth file s
+            (l .trailer),
+        ← e,
+      )
+      (entries-forth file (countIn file) (length file - distanceIn file) s (omega arith))
 
-  pub packs-back : PacksBack b
+  pub packs-back : PacksBack file
   unfolding frontOf
   packs-back =
       record {
         accepted = grounds .1;
-        bytes = rw forth (take-append-drop (length b - distanceIn b) b);
+        bytes = rw forth (take-append-drop (length file - distanceIn file) file);
       }

@@ -1,11 +1,10 @@
 -- The trailer's two numbers are read back behind any bytes; and a list that is one (no ground by 14) has the trailer
 -- that its numbers say.
-use Prim.Native.Nat.{ℕ, _+_, _-_, _*_, _≤_, _<_}
-use mathlib.Core.Path.{_≡_, refl, sym, ap, _∙_}
-use mathlib.Core.List.{List, [], _∷_, _++_}
+use Prim.Native.Nat.{ℕ, _+_, _-_, _≤_, _<_}
+use mathlib.Core.Path.{_≡_, ap, _∙_}
+use mathlib.Core.List.{List, [], _++_}
 use native.Mathlib.Omega.{arith}
 use lib.ListN.{length, length-append}
-use Rattle.columns.specs.Test.{ifEq, ifLt}
 use Rattle.columns.proofs.Test.{ifEq-yes, ifLt-no}
 use Rattle.model.specs.Bytes.{u32At, bytes4}
 use Rattle.model.specs.Refusal.{number}
@@ -42,20 +41,20 @@ distance-of xs k d h =
 pub list-some : number NoList ≡ 0 → ⊥
 list-some z = omega arith
 
-pub record Listed (b : List ℕ) : Type 0 where
-  pub trailer : trailerBytes ≤ length b
-  pub distance : distanceIn b ≡ distanceOf (countIn b)
-  pub fits : distanceIn b ≤ length b
+pub record Listed (file : List ℕ) : Type 0 where
+  pub trailer : trailerBytes ≤ length file
+  pub distance : distanceIn file ≡ distanceOf (countIn file)
+  pub fits : distanceIn file ≤ length file
 
-pub listed : (b : List ℕ) → tailCode b ≡ 0 → Listed b
+pub listed : (file : List ℕ) → tailCode file ≡ 0 → Listed file
 unfolding tailCode
-listed b h =
-    let p = no-lt (length b) trailerBytes (number NoList) _ list-some h in
-    let q = no-ne (distanceIn b) (distanceOf (countIn b)) _ (number NoList) list-some (p .1) in
-    let r = no-lt (length b) (distanceIn b) (number NoList) 0 list-some (q .1) in
+listed file h =
+    let p = no-lt (length file) trailerBytes (number NoList) _ list-some h in
+    let q = no-ne (distanceIn file) (distanceOf (countIn file)) _ (number NoList) list-some (p .1) in
+    let r = no-lt (length file) (distanceIn file) (number NoList) 0 list-some (q .1) in
     record { trailer = p .0; distance = q .0; fits = r .0 }
 
-pub lists : (b : List ℕ) → Listed b → tailCode b ≡ 0
+pub lists : (file : List ℕ) → Listed file → tailCode file ≡ 0
 unfolding tailCode
-lists b l = ifLt-no (number NoList) (l .trailer) ∙ ifEq-yes (number NoList) (l .distance)
+lists file l = ifLt-no (number NoList) (l .trailer) ∙ ifEq-yes (number NoList) (l .distance)
     ∙ ifLt-no (number NoList) (l .fits)

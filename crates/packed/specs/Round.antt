@@ -14,6 +14,6 @@ pub record ReadsBack (front : List ℕ) (es : List Entry) : Type 0 where
   pub before : frontOf (front ++ packed es) ≡ front
 
 -- the entries read from a list have no ground, and with the front pack into its bytes
-pub record PacksBack (b : List ℕ) : Type 0 where
-  pub accepted : entriesCode (entriesHeld b) ≡ 0
-  pub bytes : frontOf b ++ packed (entriesHeld b) ≡ b
+pub record PacksBack (file : List ℕ) : Type 0 where
+  pub accepted : entriesCode (entriesHeld file) ≡ 0
+  pub bytes : frontOf file ++ packed (entriesHeld file) ≡ file

@@ -1,5 +1,5 @@
 -- The two passes of packing, step by step: what holds between two steps (`On`) holds after each.
-use Prim.Native.Nat.{ℕ, zero, suc, _+_, _-_, _*_, _≤_, _<_}
+use Prim.Native.Nat.{ℕ, _+_, _-_, _*_, _≤_, _<_}
 use mathlib.Core.Path.{_≡_, refl, sym, ap, _∙_, subst}
 use mathlib.Core.List.{List, [], _∷_, _++_}
 use mathlib.Core.Bool.{Bool, true, false, not, true≢false, false≢true}
@@ -10,17 +10,15 @@ use lib.Dec.{ltb}
 use lib.ListN.{length, getD, take, drop}
 use lib.Seq.{sets, drop-cons, take-all, drop-length}
 use borrow.Author.Tests.{ltb-true, ltb-false, not-true, not-false}
-use Rattle.columns.specs.Test.{ifEq, ifLt}
+use Rattle.columns.specs.Test.{ifEq}
 use Rattle.columns.proofs.Test.{ifEq-yes, ifEq-no, ifLt-yes, ifLt-no, is-if-eq, is-if-ne}
-use Rattle.model.specs.Bytes.{bytes4}
 use Rattle.model.specs.Entry.{entry}
 use Rattle.model.specs.Refusal.{number, orElse}
-use Rattle.model.specs.Reply.{Reply, refused, answered, packReply}
+use Rattle.model.specs.Reply.{refused, answered, packReply}
 use Rattle.model.specs.Entries.{entryBytes, bytesOf, entriesBytes, entryCode, laterCode, restCode, entriesCode}
 use Rattle.model.specs.Packing.{packed, distanceOf, outputCode, packCode, packMeaning, outputAfter}
 use Rattle.model.specs.declared.Entry.{Entry}
-use Rattle.model.specs.declared.PackAnswer.{PackAnswer}
-use Rattle.model.specs.declared.PackAnswer.the-variants.{Packed, Refused}
+use Rattle.model.specs.declared.PackAnswer.the-variants.{Refused}
 use Rattle.model.specs.declared.Refusal.the-variants.{BadEntry, OutputTooShort}
 use Rattle.entries.specs.Verdict.{badUnless}
 use Rattle.packing.specs.declared.Packing.{Packing}

@@ -4,8 +4,8 @@ use mathlib.Core.Path.{_≡_, refl, sym, ap, _∙_}
 use mathlib.Core.List.{List, [], _∷_, _++_, append-assoc, append-nil}
 use native.Mathlib.Numerals.{add-one, towards-suc}
 use native.Mathlib.Omega.{arith}
-use lib.ListN.{length, length-append, length-take, length-drop, getD, set, take, drop}
-use lib.Seq.{sets, sets-eq, take-append-seam, drop-append-add, drop-drop, take-suc, take-all, length-take-le}
+use lib.ListN.{length, length-append, length-drop, getD, set, take, drop}
+use lib.Seq.{sets, sets-eq, take-append-seam, drop-append-add, drop-drop, take-suc, length-take-le}
 use Rattle.model.specs.Bytes.{bytes2, bytes4}
 use Rattle.model.specs.Entry.{entry}
 use Rattle.model.specs.Entries.{entryBytes, bytesOf, entriesBytes}

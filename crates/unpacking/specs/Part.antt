@@ -10,6 +10,6 @@ use Rattle.unpacking.specs.declared.Plan.{Plan}
 -- of k entries from byte p on, those from an index on that there is room for
 pub record Part (k p from room : ℕ) (r : Plan) : Type 0 where
   pub answer : r .answer ≡ Read (r .count)
-  pub entries : (b : List ℕ) → take room (drop from (entriesFrom b k p)) ≡ entriesFrom b (r .count) (r .first)
+  pub entries : (file : List ℕ) → take room (drop from (entriesFrom file k p)) ≡ entriesFrom file (r .count) (r .first)
   pub fits : r .count ≤ room
   pub inside : r .first + entryBytes * r .count ≤ p + entryBytes * k

@@ -1,5 +1,4 @@
 -- `entries::fine_after` meets its contract: ground by ground.
-use mathlib.Core.Path.{refl}
 use borrow.Author.Needs.{needs}
 use Rattle.entries.proofs.Checks.{after-bad, after-none, after-later}
 use Rattle.entries.proofs.fine_after.Statement.{statement}

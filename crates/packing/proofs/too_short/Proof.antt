@@ -1,6 +1,6 @@
 -- `packing::too_short` meets its contract, with no product that could wrap.
 use mathlib.Core.Path.{sym}
-use Prim.Native.Nat.{_+_, _-_, _*_, _/_}
+use Prim.Native.Nat.{_-_, _/_}
 use native.Mathlib.Omega.{arith}
 use borrow.Author.Tests.{lt-ltb}
 use Rattle.model.specs.Entries.{entryBytes}
