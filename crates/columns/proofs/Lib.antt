@@ -7,5 +7,6 @@ pub mod Order
 pub mod Next
 pub mod Rows
 pub mod Unrank
+pub mod Rank
 pub mod SetBelow
 pub mod Membership

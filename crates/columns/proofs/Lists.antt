@@ -88,7 +88,7 @@ after-absent x (y ∷ ys) f =
     after-there x y ys (λ e. f (List·Memᴰ·head e)) ∙ after-absent x ys (λ m. f (List·Memᴰ·tail m))
 
 -- x is among the elements of a list but is not the first
-later : (x y : ℕ) (ys : List ℕ) → List·Memᴰ x (y ∷ ys) → (x ≡ y → ⊥) → List·Memᴰ x ys
+pub later : (x y : ℕ) (ys : List ℕ) → List·Memᴰ x (y ∷ ys) → (x ≡ y → ⊥) → List·Memᴰ x ys
 later x y ys m n = ⊎-elim (λ e. absurd (n e)) (λ t. t) (List·Memᴰ·cases-cons m)
 
 -- nothing stands after the last

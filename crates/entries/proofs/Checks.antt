@@ -1,44 +1,53 @@
 -- The checks of 15 step by step: one entry, two neighbours, and the entries of a file from a position on.
-use Prim.Native.Nat.{ℕ, zero, suc, _+_, _-_, _*_, _≤_, _<_}
+use Prim.Native.Nat.{ℕ, zero, suc, _+_, _-_, _≤_, _<_}
 use mathlib.Core.Path.{_≡_, refl, sym, ap, ap₂, _∙_}
-use mathlib.Core.List.{List, [], _∷_, _++_}
+use mathlib.Core.List.{List, [], _∷_}
 use mathlib.Core.Bool.{Bool, true, false, not, _&&_, _||_}
 use native.Mathlib.Numerals.{sub-one}
 use native.Mathlib.Omega.{arith}
 use lib.Dec.{ltb, eqb}
-use lib.ListN.{length}
 use borrow.Author.Tests.{eq-eqb, ne-eqb, le-ltb, not-true, not-false}
+use Rattle.columns.specs.Bound.{columnBound}
 use Rattle.columns.specs.Set.{memberOf, sizeOf}
 use Rattle.columns.specs.Test.{ifEq, pick}
 use Rattle.columns.proofs.Test.{ifEq-yes, ifEq-no, is-if-eq, is-if-ne, is-if-le, is-if-not-le}
 use Rattle.model.specs.Entry.{thenBelow, earlier}
-use Rattle.model.specs.Refusal.{orElse}
-use Rattle.model.specs.Packed.{entryAt, entriesFrom, entryCode, laterCode, restCode, entriesCode}
+use Rattle.model.specs.Bounds.{tableBound, row}
+use Rattle.model.specs.Refusal.{number, orElse}
+use Rattle.model.specs.Entries.{entryBytes, entryAt, entriesFrom, entryCode, laterCode, restCode, entriesCode}
 use Rattle.model.specs.declared.Entry.{Entry}
+use Rattle.model.specs.declared.Refusal.the-variants.{BadEntry}
 use Rattle.entries.specs.Verdict.{badUnless}
-use Rattle.model.proofs.Grounds.{orElse-next, orElse-first}
+use Rattle.model.proofs.Grounds.{orElse-first, orElse-next}
+
+-- 15 is a ground
+pub bad-some : number BadEntry ≡ 0 → ⊥
+bad-some z = omega arith
 
 -- one entry
-pub target-over : (e : Entry) → 16 ≤ e .target → 15 ≡ entryCode e
+pub target-over : (e : Entry) → tableBound ≤ e .target → number BadEntry ≡ entryCode e
 unfolding entryCode
 target-over e h = is-if-le _ h refl
 
-pub right-row : (e : Entry) → e .target < 16 → e .right ≡ 255 → 0 ≡ entryCode e
+pub right-row : (e : Entry) → e .target < tableBound → e .right ≡ row → 0 ≡ entryCode e
 unfolding entryCode
 right-row e h r = is-if-not-le _ h (is-if-eq _ r refl)
 
-pub right-over : (e : Entry) → e .target < 16 → (e .right ≡ 255 → ⊥) → 16 ≤ e .right → 15 ≡ entryCode e
+pub right-over : (e : Entry) → e .target < tableBound → (e .right ≡ row → ⊥) → columnBound ≤ e .right
+    → number BadEntry ≡ entryCode e
 unfolding entryCode
 right-over e h r l = is-if-not-le _ h (is-if-ne _ r (is-if-le _ l refl))
 
-not-member : (t : Bool) → badUnless (not t) ≡ pick t 15 0
+not-member : (t : Bool) → badUnless (not t) ≡ pick t (number BadEntry) 0
 not-member true = refl
 not-member false = refl
 
-pub right-column : (e : Entry) {t : Bool} → e .target < 16 → (e .right ≡ 255 → ⊥) → e .right < 16 → t ≡ memberOf (e .left) (e .right)
+pub right-column : (e : Entry) {t : Bool} → e .target < tableBound → (e .right ≡ row → ⊥) → e .right < columnBound
+    → t ≡ memberOf (e .left) (e .right)
     → badUnless (not t) ≡ entryCode e
 unfolding entryCode
-right-column e {t} h r l m = is-if-not-le _ h (is-if-ne _ r (is-if-not-le _ l (not-member t ∙ ap (λ (u : Bool). pick u 15 0) m)))
+right-column e {t} h r l m =
+    is-if-not-le _ h (is-if-ne _ r (is-if-not-le _ l (not-member t ∙ ap (λ (u : Bool). pick u (number BadEntry) 0) m)))
 
 -- the test of a lexicographic order, number by number
 or-false : (t : Bool) → t ≡ (t || false)
@@ -50,7 +59,8 @@ then-first m n t h = or-false (ltb m n) ∙ ap (λ (u : Bool). ltb m n || (u && 
 
 then-rest : (m n : ℕ) {t r : Bool} → m ≡ n → r ≡ t → r ≡ thenBelow m n t
 then-rest m n {t} {r} e p =
-    p ∙ sym (ap (λ (u : Bool). u || (eqb m n && t)) (le-ltb m n (omega arith)) ∙ ap (λ (u : Bool). u && t) (eq-eqb m n e))
+    p ∙ sym (ap (λ (u : Bool). u || (eqb m n && t)) (le-ltb m n (omega arith))
+    ∙ ap (λ (u : Bool). u && t) (eq-eqb m n e))
 
 -- two neighbours
 pub by-target : (e f : Entry) → (e .target ≡ f .target → ⊥) → ltb (e .target) (f .target) ≡ earlier e f
@@ -78,79 +88,91 @@ module _ (e f : Entry) (g : e .target ≡ f .target) where
       (then-rest (sizeOf (e .left)) (sizeOf (f .left)) (ap sizeOf h) (then-rest (e .left) (f .left) h refl))
 
 -- what a test of the entry at i found
-pub bad-at : (b : List ℕ) (i : ℕ) {e : Entry} (t : Bool) → e ≡ entryAt b i → badUnless t ≡ entryCode e → not t ≡ true → 15 ≡ entryCode (entryAt b i)
-bad-at b i t p q h = sym (ap badUnless (not-true t h)) ∙ q ∙ ap entryCode p
+pub bad-at : (file : List ℕ) (i : ℕ) {e : Entry} (t : Bool) → e ≡ entryAt file i → badUnless t ≡ entryCode e
+    → not t ≡ true
+    → number BadEntry ≡ entryCode (entryAt file i)
+bad-at file i t p q h = sym (ap badUnless (not-true t h)) ∙ q ∙ ap entryCode p
 
-pub fine-at : (b : List ℕ) (i : ℕ) {e : Entry} (t : Bool) → e ≡ entryAt b i → badUnless t ≡ entryCode e → not t ≡ false → 0 ≡ entryCode (entryAt b i)
-fine-at b i t p q h = sym (ap badUnless (not-false t h)) ∙ q ∙ ap entryCode p
+pub fine-at : (file : List ℕ) (i : ℕ) {e : Entry} (t : Bool) → e ≡ entryAt file i → badUnless t ≡ entryCode e
+    → not t ≡ false
+    → 0 ≡ entryCode (entryAt file i)
+fine-at file i t p q h = sym (ap badUnless (not-false t h)) ∙ q ∙ ap entryCode p
 
-pub later-at : (b : List ℕ) (i : ℕ) (e : Entry) {f : Entry} {t : Bool} → f ≡ entryAt b i → t ≡ earlier e f → not t ≡ false → true ≡ earlier e (entryAt b i)
-later-at b i e {t = t} p q h = sym (not-false t h) ∙ q ∙ ap (earlier e) p
+pub later-at : (file : List ℕ) (i : ℕ) (e : Entry) {f : Entry} {t : Bool} → f ≡ entryAt file i → t ≡ earlier e f
+    → not t ≡ false → true ≡ earlier e (entryAt file i)
+later-at file i e {t = t} p q h = sym (not-false t h) ∙ q ∙ ap (earlier e) p
 
-pub not-later-at : (b : List ℕ) (i : ℕ) (e : Entry) {f : Entry} {t : Bool} → f ≡ entryAt b i → t ≡ earlier e f → not t ≡ true → false ≡ earlier e (entryAt b i)
-not-later-at b i e {t = t} p q h = sym (not-true t h) ∙ q ∙ ap (earlier e) p
+pub not-later-at : (file : List ℕ) (i : ℕ) (e : Entry) {f : Entry} {t : Bool} → f ≡ entryAt file i → t ≡ earlier e f
+    → not t ≡ true → false ≡ earlier e (entryAt file i)
+not-later-at file i e {t = t} p q h = sym (not-true t h) ∙ q ∙ ap (earlier e) p
 
 -- the entries of a file from a position on
-from-step : (b : List ℕ) (n i : ℕ) → 0 < n → entriesFrom b n i ≡ entryAt b i ∷ entriesFrom b (n - 1) (i + 4)
+from-step : (file : List ℕ) (n i : ℕ) → 0 < n
+    → entriesFrom file n i ≡ entryAt file i ∷ entriesFrom file (n - 1) (i + entryBytes)
 unfolding entriesFrom
-from-step b zero i h = absurd (omega arith)
-from-step b (suc n) i h = simp sub-one
+from-step file zero i h = absurd (omega arith)
+from-step file (suc n) i h = simp sub-one
 
-pub from-none : (b : List ℕ) (n i : ℕ) → n ≡ 0 → 0 ≡ entriesCode (entriesFrom b n i)
+pub from-none : (file : List ℕ) (n i : ℕ) → n ≡ 0 → 0 ≡ entriesCode (entriesFrom file n i)
 unfolding entriesFrom entriesCode
-from-none b n i e = ap (λ (k : ℕ). entriesCode (entriesFrom b k i)) (sym e)
+from-none file n i e = ap (λ (k : ℕ). entriesCode (entriesFrom file k i)) (sym e)
 
-pub first-bad : (b : List ℕ) (n i : ℕ) → 0 < n → 15 ≡ entryCode (entryAt b i) → 15 ≡ entriesCode (entriesFrom b n i)
+pub first-bad : (file : List ℕ) (n i : ℕ) → 0 < n → number BadEntry ≡ entryCode (entryAt file i)
+    → number BadEntry ≡ entriesCode (entriesFrom file n i)
 unfolding entriesCode
-first-bad b n i h e =
-    rw (from-step b n i h) (e ∙ sym (orElse-first _ (λ z. let y : _≡_ {A = ℕ} 15 0 = e ∙ z in omega arith)))
+first-bad file n i h e =
+    rw (from-step file n i h) (e ∙ sym (orElse-first _ (λ z. bad-some (e ∙ z))))
 
-pub first-fine : (b : List ℕ) (n i : ℕ) {e : Entry} → 0 < n → e ≡ entryAt b i → 0 ≡ entryCode (entryAt b i)
-    → entriesCode (entriesFrom b n i) ≡ restCode e (entriesFrom b (n - 1) (i + 4))
+pub first-fine : (file : List ℕ) (n i : ℕ) {e : Entry} → 0 < n → e ≡ entryAt file i → 0 ≡ entryCode (entryAt file i)
+    → entriesCode (entriesFrom file n i) ≡ restCode e (entriesFrom file (n - 1) (i + entryBytes))
 unfolding entriesCode
-first-fine b n i h p e = rw (from-step b n i h, p) (orElse-next _ (sym e))
+first-fine file n i h p e = rw (from-step file n i h, p) (orElse-next _ (sym e))
 
-pub rest-none : (b : List ℕ) (e : Entry) (n i : ℕ) → n ≡ 0 → 0 ≡ restCode e (entriesFrom b n i)
+pub rest-none : (file : List ℕ) (e : Entry) (n i : ℕ) → n ≡ 0 → 0 ≡ restCode e (entriesFrom file n i)
 unfolding entriesFrom restCode
-rest-none b e n i z = ap (λ (k : ℕ). restCode e (entriesFrom b k i)) (sym z)
+rest-none file e n i z = ap (λ (k : ℕ). restCode e (entriesFrom file k i)) (sym z)
 
-pub next-bad : (b : List ℕ) (e : Entry) (n i : ℕ) → 0 < n → 15 ≡ entryCode (entryAt b i) → 15 ≡ restCode e (entriesFrom b n i)
+pub next-bad : (file : List ℕ) (e : Entry) (n i : ℕ) → 0 < n → number BadEntry ≡ entryCode (entryAt file i)
+    → number BadEntry ≡ restCode e (entriesFrom file n i)
 unfolding restCode
-next-bad b e n i h p =
-    rw (from-step b n i h) (p ∙ sym (orElse-first _ (λ z. let y : _≡_ {A = ℕ} 15 0 = p ∙ z in omega arith)))
+next-bad file e n i h p =
+    rw (from-step file n i h) (p ∙ sym (orElse-first _ (λ z. bad-some (p ∙ z))))
 
-later-not : (e f : Entry) → false ≡ earlier e f → laterCode e f ≡ 15
+later-not : (e f : Entry) → false ≡ earlier e f → laterCode e f ≡ number BadEntry
 unfolding laterCode
-later-not e f p = ap (λ (u : Bool). pick u 0 15) (sym p)
+later-not e f p = ap (λ (u : Bool). pick u 0 (number BadEntry)) (sym p)
 
 later-so : (e f : Entry) → true ≡ earlier e f → laterCode e f ≡ 0
 unfolding laterCode
-later-so e f p = ap (λ (u : Bool). pick u 0 15) (sym p)
+later-so e f p = ap (λ (u : Bool). pick u 0 (number BadEntry)) (sym p)
 
-pub next-not-later : (b : List ℕ) (e : Entry) (n i : ℕ) → 0 < n → 0 ≡ entryCode (entryAt b i) → false ≡ earlier e (entryAt b i)
-    → 15 ≡ restCode e (entriesFrom b n i)
+pub next-not-later : (file : List ℕ) (e : Entry) (n i : ℕ) → 0 < n → 0 ≡ entryCode (entryAt file i)
+    → false ≡ earlier e (entryAt file i)
+    → number BadEntry ≡ restCode e (entriesFrom file n i)
 unfolding restCode
-next-not-later b e n i h p q =
-    let l = later-not e (entryAt b i) q in
-    rw (from-step b n i h)
-    (sym (orElse-next _ (sym p) ∙ orElse-first _ (λ z. let y : _≡_ {A = ℕ} 15 0 = sym l ∙ z in omega arith) ∙ l))
+next-not-later file e n i h p q =
+    let l = later-not e (entryAt file i) q in
+    rw (from-step file n i h)
+    (sym (orElse-next _ (sym p) ∙ orElse-first _ (λ z. bad-some (sym l ∙ z)) ∙ l))
 
-pub next-fine : (b : List ℕ) (e : Entry) (n i : ℕ) {f : Entry} → 0 < n → f ≡ entryAt b i → 0 ≡ entryCode (entryAt b i)
-    → true ≡ earlier e (entryAt b i) → restCode e (entriesFrom b n i) ≡ restCode f (entriesFrom b (n - 1) (i + 4))
+pub next-fine : (file : List ℕ) (e : Entry) (n i : ℕ) {f : Entry} → 0 < n → f ≡ entryAt file i
+    → 0 ≡ entryCode (entryAt file i)
+    → true ≡ earlier e (entryAt file i)
+    → restCode e (entriesFrom file n i) ≡ restCode f (entriesFrom file (n - 1) (i + entryBytes))
 unfolding restCode
-next-fine b e n i h r p q =
-    rw (from-step b n i h, r) (orElse-next _ (sym p) ∙ orElse-next _ (later-so e (entryAt b i) q))
+next-fine file e n i h r p q =
+    rw (from-step file n i h, r) (orElse-next _ (sym p) ∙ orElse-next _ (later-so e (entryAt file i) q))
 
-not-bad : (t : Bool) → badUnless t ≡ pick t 0 15
+not-bad : (t : Bool) → badUnless t ≡ pick t 0 (number BadEntry)
 not-bad true = refl
 not-bad false = refl
 
 -- an entry at an index, behind the one before
 module _ (at : ℕ) (before e : Entry) (t : Bool) (q : badUnless t ≡ entryCode e) where
-  pub after-bad : not t ≡ true → 15 ≡ orElse (entryCode e) (ifEq at 0 0 (laterCode before e))
+  pub after-bad : not t ≡ true → number BadEntry ≡ orElse (entryCode e) (ifEq at 0 0 (laterCode before e))
   after-bad h =
-      let u : 15 ≡ entryCode e = sym (ap badUnless (not-true t h)) ∙ q in
-      u ∙ sym (orElse-first _ (λ z. let y : _≡_ {A = ℕ} 15 0 = u ∙ z in omega arith))
+      let u : number BadEntry ≡ entryCode e = sym (ap badUnless (not-true t h)) ∙ q in
+      u ∙ sym (orElse-first _ (λ z. bad-some (u ∙ z)))
 
   no-ground : not t ≡ false → entryCode e ≡ 0
   no-ground h = sym q ∙ ap badUnless (not-false t h)
@@ -161,4 +183,5 @@ module _ (at : ℕ) (before e : Entry) (t : Bool) (q : badUnless t ≡ entryCode
   pub after-later : {u : Bool} → not t ≡ false → (at ≡ 0 → ⊥) → u ≡ earlier before e
       → badUnless u ≡ orElse (entryCode e) (ifEq at 0 0 (laterCode before e))
   unfolding laterCode
-  after-later {u} h n p = not-bad u ∙ ap (λ (v : Bool). pick v 0 15) p ∙ sym (orElse-next _ (no-ground h) ∙ ifEq-no 0 n)
+  after-later {u} h n p =
+      not-bad u ∙ ap (λ (v : Bool). pick v 0 (number BadEntry)) p ∙ sym (orElse-next _ (no-ground h) ∙ ifEq-no 0 n)

@@ -1,4 +1,4 @@
 pub mod Grounds
-pub mod Bytes
+pub mod OneEntry
 pub mod Entries
 pub mod Checks

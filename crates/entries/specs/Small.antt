@@ -1,14 +1,11 @@
--- What the machine's types say of entries and of bytes: a left side has 2 bytes, a byte is below 256. The laws on packed lists ask no more.
-use Prim.Native.Nat.{ℕ, _<_}
+-- What the machine's types say of entries: a left side has no bit above the columns. The laws on packed lists ask no
+-- more.
+use Prim.Native.Nat.{_^_, _<_}
 use mathlib.Core.List.{List, [], _∷_}
+use Rattle.columns.specs.Bound.{columnBound}
 use Rattle.model.specs.declared.Entry.{Entry}
 
--- each left side has 2 bytes
+-- each left side is a set of columns below the bound
 abbrev pub Small : List Entry → Type 0
 Small [] = Unit {0}
-Small (e ∷ es) = (e .left < 65536) × Small es
-
--- each number is a byte
-abbrev pub Bytes : List ℕ → Type 0
-Bytes [] = Unit {0}
-Bytes (x ∷ xs) = (x < 256) × Bytes xs
+Small (e ∷ es) = (e .left < 2 ^ columnBound) × Small es

@@ -8,12 +8,13 @@ ghost use Rattle.columns.specs.Set.{memberOf, sizeOf};
 ghost use Rattle.columns.specs.Test.{ifEq};
 ghost use Rattle.model.specs.Entry.{earlier};
 ghost use Rattle.model.specs.Refusal.{orElse};
-ghost use Rattle.model.specs.Packed.{entryCode, laterCode, entriesCode, entryAt, entriesFrom};
+ghost use Rattle.model.specs.Entries.{entryBytes, entryCode, laterCode, entriesCode, entryAt, entriesFrom};
 ghost use Rattle.entries.specs.Verdict.{badUnless};
 use columns::COLUMN_BOUND;
 use columns::ColumnSet;
 use file::byte_at;
 use file::u16_at;
+use model::ENTRY_BYTES;
 use model::Entry;
 use model::ROW;
 use model::TABLE_BOUND;
@@ -114,7 +115,7 @@ pub fn entry_from(file: &[u8], at: usize) -> Entry
 
 // 15, entry by entry: may all the entries from a position on stand in a list?
 pub fn entries_ok(file: &[u8], count: u32, from: usize) -> bool
-    requires { ⌜ from + 4 * count ≤ length (now file) ⌝ }
+    requires { ⌜ from + entryBytes * count ≤ length (now file) ⌝ }
     ensures { λ r. ⌜ badUnless r ≡ entriesCode (entriesFrom (now (file .entry)) count from) ⌝ }
 {
     if count == 0 {
@@ -124,7 +125,7 @@ pub fn entries_ok(file: &[u8], count: u32, from: usize) -> bool
     if !entry_ok(before) {
         return false;
     }
-    let mut at = from + 4;
+    let mut at = from + ENTRY_BYTES;
     let mut left = count - 1;
     while 0 < left {
         let e = entry_from(file, at);
@@ -135,7 +136,7 @@ pub fn entries_ok(file: &[u8], count: u32, from: usize) -> bool
             return false;
         }
         before = e;
-        at += 4;
+        at += ENTRY_BYTES;
         left -= 1;
     }
     true

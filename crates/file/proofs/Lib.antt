@@ -1,1 +1,3 @@
 pub mod Past
+pub mod Numbers
+pub mod Stores

@@ -1,7 +1,12 @@
-// Not for callers: numbers in a file, unsigned and little-endian, read at any position; a byte past the end reads as 0.
-// Relies on the definitions of `model`. Called by `layout`, `entries` and `unpacking`.
+// Not for callers: numbers in a file, unsigned and little-endian, read and written at any position; a byte past the end
+// reads as 0.
+// Relies on the definitions of `model`. Called by `layout`, `entries`, `packing` and `unpacking`; the laws on numbers
+// as bytes stand in proofs/.
+ghost use Prim.Native.Nat.{_+_, _%_, _≤_};
 ghost use mathlib.Core.Path.{_≡_};
-ghost use Rattle.model.specs.Bytes.{byteAt, u16At, u32At};
+ghost use lib.ListN.{length};
+ghost use lib.Seq.{sets};
+ghost use Rattle.model.specs.Bytes.{byteAt, u16At, u32At, bytes2, bytes4};
 
 // The byte at i.
 pub fn byte_at(b: &[u8], i: usize) -> u8
@@ -44,4 +49,31 @@ pub fn u32_at(b: &[u8], i: usize) -> u32
     let b2 = wide(byte_at(b, i + 2));
     let b3 = wide(byte_at(b, i + 3));
     b0 + 256 * b1 + 65536 * b2 + 16777216 * b3
+}
+
+// The lowest byte of a number.
+fn low(x: usize) -> u8
+    ensures { λ r. ⌜ r ≡ x % 256 ⌝ }
+{
+    (x % 256) as u8
+}
+
+// Writes the 2 lowest bytes of a number at i.
+pub fn put_u16(out: &mut [u8], i: usize, x: usize)
+    requires { ⌜ i + 2 ≤ length (now out) ⌝ }
+    ensures { λ _. ⌜ now (out .exit) ≡ sets (now (out .entry)) i (bytes2 x) ⌝ }
+{
+    out[i] = low(x);
+    out[i + 1] = low(x / 256);
+}
+
+// Writes the 4 lowest bytes of a number at i.
+pub fn put_u32(out: &mut [u8], i: usize, x: usize)
+    requires { ⌜ i + 4 ≤ length (now out) ⌝ }
+    ensures { λ _. ⌜ now (out .exit) ≡ sets (now (out .entry)) i (bytes4 x) ⌝ }
+{
+    out[i] = low(x);
+    out[i + 1] = low(x / 256);
+    out[i + 2] = low(x / 65536);
+    out[i + 3] = low(x / 16777216);
 }

@@ -30,7 +30,8 @@ use denote.Triple.Statement.{Contract}
 use denote.Triple.Clauses.{ensured, lasts}
 use denote.Triple.Walked.{says}
 use Rattle.model.specs.Reply.{Reply, packReply}
-use Rattle.model.specs.Packed.{distanceOf, entriesCode, outputCode, packCode, packMeaning, outputAfter}
+use Rattle.model.specs.Entries.{entriesCode}
+use Rattle.model.specs.Packing.{distanceOf, outputCode, packCode, packMeaning, outputAfter}
 use Rattle.model.specs.declared.Entry.{Entry}
 use Rattle.model.specs.declared.PackAnswer.{PackAnswer}
 use Rattle.model.proofs.Grounds.{orElse-right, ifLt-fails}

@@ -32,7 +32,7 @@ use denote.Triple.Statement.{Contract}
 use denote.Triple.Clauses.{ensured, lasts}
 use denote.Triple.Walked.{says}
 use Rattle.model.specs.Reply.{Reply, entriesReply}
-use Rattle.model.specs.Packed.{readCode, entriesRead, readFrom, readMeaning, runRead}
+use Rattle.model.specs.Reading.{readCode, entriesRead, readFrom, readMeaning, runRead}
 use Rattle.model.specs.declared.Entry.{Entry}
 use Rattle.model.specs.declared.EntriesAnswer.{EntriesAnswer}
 use Rattle.model.proofs.Entry as R

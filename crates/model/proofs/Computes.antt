@@ -13,7 +13,8 @@ use Rattle.model.specs.Target.{owner, ownerIn, ancestor, ancestorIn, cel
 use Rattle.model.specs.Listing.{rightsOf, cells, cellsFrom, cellsOf, entriesOf}
 use Rattle.model.specs.Listed.{listed}
 use Rattle.model.specs.Rights.{rightAt, rightsFrom, rightsIn}
-use Rattle.model.specs.Album.{headOf, codesOf, rowOf, trailerOf, album, noRows, oneMissing, bothMissing, equalRows}
+use Rattle.model.specs.Encode.{headOf, codesOf, rowOf, trailerOf}
+use Rattle.model.specs.Album.{album, noRows, oneMissing, bothMissing, equalRows}
 use Rattle.model.specs.Damaged.{groundsFrom, notZero, grounds, cut, noTable, children, offsetsFrom, manyTables, longTrailer, lateTable, shortHead, shortRow, leftByte, manyColumns, rowsOnly, manyRows, rootedRoot, ownParent, tooWide, rootedRow, unknownParentRow, smallest, mostColumns, mostRows, widest, lateAndLarge, largeAndRooted, ownParentAndWide, wideAndLong, longAndRooted, rowThenTable, rowThenByte}
 use Rattle.model.specs.Line.{inLine, forked, below, offsetsBy12, deepest}
 use Rattle.columns.specs.Set.{memberOf}
@@ -22,11 +23,14 @@ use Rattle.model.specs.Question.{askMeaning}
 use Rattle.model.specs.Calls.{passed, written, placeCode, roomCode, callCode, runAfter, workAfter}
 use Rattle.model.specs.List.{codeAfter}
 use Rattle.model.specs.Entry.{earlier}
-use Rattle.model.specs.Packed as list
-use Rattle.model.specs.Packed.{bytesOf, entryAt, countIn, distanceIn, entriesBytes, packed, entriesFrom, entriesIn, frontOf, entryCode, laterCode, restCode, entriesCode, outputCode, packCode, packMeaning, outputAfter, readCode, openMeaning, entriesRead, frontRead, readFrom, readMeaning, runRead, readAt}
+use Rattle.model.specs.Entries.{bytesOf, entryAt, entriesBytes, entriesFrom, entriesCode}
+use Rattle.model.specs.Entries.{entryCode, laterCode, restCode}
+use Rattle.model.specs.Packing.{packed, outputCode, packCode, packMeaning, outputAfter}
+use Rattle.model.specs.Reading.{countIn, distanceIn, entriesHeld, frontOf, tailCode, readCode, openMeaning}
+use Rattle.model.specs.Reading.{entriesRead, frontRead, readFrom, readMeaning, runRead, readAt}
 use Rattle.model.specs.RefusedCalls.{emptyList, lostEntry}
 use Rattle.model.specs.Text.{answerText, listingText, headLine, refusedLine, linesOf, entryLine, entryText, rightText, decimal, decimalIn}
 
 unfoldable pub computes : Unit {0}
-unfolding ones onesIn ifEq ifLt ifLe withoutOf inOrder bySizeFrom ofSize ofSizeFrom u16At u32At bytes2 bytes4 orElse firstOf replyOf wordsAfter tables trailer tableAt columns parent rows rowAt parentRow cell tableEnd visible visibleIn inherited sets setsFrom checkCode checkMeaning sizeCode trailerCode startOf headCode boundCode parentCode widthCode extentCode rowCode tableCode leftCode holds minimal allBelow agreeOn owner ownerIn ancestor ancestorIn cellsAgree agreeAt listed rightAt rightsFrom rightsIn rightsOf cells cellsFrom cellsOf entriesOf headOf codesOf rowOf trailerOf album noRows oneMissing bothMissing equalRows groundsFrom notZero grounds cut noTable children offsetsFrom manyTables longTrailer lateTable shortHead shortRow leftByte manyColumns rowsOnly manyRows rootedRoot ownParent tooWide rootedRow unknownParentRow smallest mostColumns mostRows widest lateAndLarge largeAndRooted ownParentAndWide wideAndLong longAndRooted rowThenTable rowThenByte inLine forked below offsetsBy12 deepest memberOf targetCode leftSideCode rightSideCode sidesCode wordsCode questionCode askMeaning passed written placeCode roomCode callCode runAfter workAfter codeAfter earlier list.listCode bytesOf entryAt countIn distanceIn entriesBytes packed entriesFrom entriesIn frontOf entryCode laterCode restCode entriesCode outputCode packCode packMeaning outputAfter readCode openMeaning entriesRead frontRead readFrom readMeaning runRead readAt emptyList lostEntry answerText listingText headLine refusedLine linesOf entryLine entryText rightText decimal decimalIn
+unfolding ones onesIn ifEq ifLt ifLe withoutOf inOrder bySizeFrom ofSize ofSizeFrom u16At u32At bytes2 bytes4 orElse firstOf replyOf wordsAfter tables trailer tableAt columns parent rows rowAt parentRow cell tableEnd visible visibleIn inherited sets setsFrom checkCode checkMeaning sizeCode trailerCode startOf headCode boundCode parentCode widthCode extentCode rowCode tableCode leftCode holds minimal allBelow agreeOn owner ownerIn ancestor ancestorIn cellsAgree agreeAt listed rightAt rightsFrom rightsIn rightsOf cells cellsFrom cellsOf entriesOf headOf codesOf rowOf trailerOf album noRows oneMissing bothMissing equalRows groundsFrom notZero grounds cut noTable children offsetsFrom manyTables longTrailer lateTable shortHead shortRow leftByte manyColumns rowsOnly manyRows rootedRoot ownParent tooWide rootedRow unknownParentRow smallest mostColumns mostRows widest lateAndLarge largeAndRooted ownParentAndWide wideAndLong longAndRooted rowThenTable rowThenByte inLine forked below offsetsBy12 deepest memberOf targetCode leftSideCode rightSideCode sidesCode wordsCode questionCode askMeaning passed written placeCode roomCode callCode runAfter workAfter codeAfter earlier tailCode bytesOf entryAt countIn distanceIn entriesBytes packed entriesFrom entriesHeld frontOf entryCode laterCode restCode entriesCode outputCode packCode packMeaning outputAfter readCode openMeaning entriesRead frontRead readFrom readMeaning runRead readAt emptyList lostEntry answerText listingText headLine refusedLine linesOf entryLine entryText rightText decimal decimalIn
 computes = tt

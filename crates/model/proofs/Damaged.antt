@@ -14,7 +14,7 @@ use Rattle.model.specs.Refusal.{number, orElse, firstOf}
 use Rattle.model.specs.declared.Refusal.the-variants.{BadParentRow}
 use Rattle.model.specs.Catalogue.{tables, trailer, tableAt, columns, parent, rows, rowAt, parentRow, tableEnd, visible, visibleIn}
 use Rattle.model.specs.Check.{Accepted, checkCode, tableCode, startOf, sizeCode, trailerCode, headCode, boundCode, parentCode, widthCode, extentCode, rowCode, leftCode}
-use Rattle.model.specs.Album.{headOf, codesOf, trailerOf}
+use Rattle.model.specs.Encode.{headOf, codesOf, trailerOf}
 use Rattle.model.specs.Damaged.{Damages, Only, groundsFrom, notZero, grounds, rowsOnly, manyRows, mostRows, AtTheBounds, DamageOrder}
 use Rattle.model.proofs.Grounds.{orElse-none, firstOf-none}
 use Rattle.model.proofs.Computes.{computes}
@@ -38,22 +38,22 @@ u32-is b i w x y z e f g h = omega arith
 
 -- n is a 2-byte number, and the trailer's place a 4-byte number
 module _ (n : ℕ) (short : u16At (bytes2 n) 0 ≡ n) (word : u32At (bytes4 (6 + 2 * n)) 0 ≡ 6 + 2 * n) where
-  abbrev trailerBytes : List ℕ
-  trailerBytes = trailerOf (0 ∷ []) 1 (6 + 2 * n)
+  abbrev lastBytes : List ℕ
+  lastBytes = trailerOf (0 ∷ []) 1 (6 + 2 * n)
 
   abbrev rowsAndTrailer : List ℕ
-  rowsAndTrailer = replicate (2 * n) 255 ++ trailerBytes
+  rowsAndTrailer = replicate (2 * n) 255 ++ lastBytes
 
   row-byte : (k : ℕ) → k < 2 * n → byteAt (rowsOnly n) (6 + k) ≡ 255
   unfolding rowsOnly headOf bytes2
-  row-byte k l = getD-append-add (headOf 0 noParent n) rowsAndTrailer k 0 ∙ full (2 * n) k trailerBytes l
+  row-byte k l = getD-append-add (headOf 0 noParent n) rowsAndTrailer k 0 ∙ full (2 * n) k lastBytes l
 
-  trailer-byte : (k : ℕ) → byteAt (rowsOnly n) (6 + (2 * n + k)) ≡ byteAt trailerBytes k
+  trailer-byte : (k : ℕ) → byteAt (rowsOnly n) (6 + (2 * n + k)) ≡ byteAt lastBytes k
   unfolding rowsOnly headOf bytes2
   trailer-byte k =
       getD-append-add (headOf 0 noParent n) rowsAndTrailer (2 * n + k) 0
       ∙ ap (λ (m : ℕ). getD rowsAndTrailer (m + k) 0) (sym (length-replicate (2 * n) 255))
-      ∙ getD-append-add (replicate (2 * n) 255) trailerBytes k 0
+      ∙ getD-append-add (replicate (2 * n) 255) lastBytes k 0
 
   long : length (rowsOnly n) ≡ 16 + 2 * n
   unfolding rowsOnly headOf trailerOf codesOf bytes2 bytes4

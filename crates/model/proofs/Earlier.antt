@@ -1,8 +1,10 @@
--- The order of entries: the test says what the proposition says, no entry stands before itself, and an ordered list has each entry once.
+-- The order of entries: the test says what the proposition says, no entry stands before itself, and an ordered list has
+-- each entry once and is told by its members.
 use Prim.Native.Nat.{ℕ, _<_}
-use mathlib.Core.Path.{_≡_, refl, sym, ap, subst, _∙_}
+use mathlib.Core.Path.{_≡_, refl, sym, ap, ap₂, subst, _∙_}
 use mathlib.Core.Logic.{_⊎_, inl, inr, ⊎-elim, _↔_}
-use mathlib.Core.List.{List, [], _∷_, _++_, List·Memᴰ, List·Memᴰ·head, List·Memᴰ·tail, List·Memᴰ·append-cases}
+use mathlib.Core.List.{List, [], _∷_, _++_, List·Memᴰ, List·Memᴰ·head, List·Memᴰ·tail}
+use mathlib.Core.List.{List·Memᴰ·append-cases, List·Memᴰ·cases-cons, List·Memᴰ·not-nil}
 use mathlib.Core.Bool.{Bool, _&&_}
 use native.Mathlib.Omega.{arith}
 use lib.Dec.{T, ltb, eqb, ltb→lt, lt→ltb}
@@ -100,3 +102,35 @@ ordered-append (e ∷ es) fs oe of h = (
       (List·Memᴰ·append-cases es m),
   ordered-append es fs (oe .1) of (λ d f m n. h d f (List·Memᴰ·tail m) n),
 )
+
+-- not both stand before the other
+pub earlier-asymmetric : (e f : Entry) → Earlier e f → Earlier f e → ⊥
+earlier-asymmetric e f h k = earlier-irreflexive e (earlier-transitive e f e h k)
+
+-- two ordered lists with the same members are equal: their first ones are, and a later member of one is a later member
+-- of the other
+same-first : (e f : Entry) (es fs : List Entry) → Ordered (e ∷ es) → Ordered (f ∷ fs)
+    → (e ≡ f) ⊎ List·Memᴰ e fs → (f ≡ e) ⊎ List·Memᴰ f es → e ≡ f
+same-first e f es fs oe of (inl p) n = p
+same-first e f es fs oe of (inr m) (inl q) = sym q
+same-first e f es fs oe of (inr m) (inr n) = absurd (earlier-asymmetric e f (oe .0 f n) (of .0 e m))
+
+later-member : (e f g : Entry) (es fs : List Entry) → e ≡ f → Ordered (e ∷ es) → List·Memᴰ g es
+    → (g ≡ f) ⊎ List·Memᴰ g fs → List·Memᴰ g fs
+later-member e f g es fs p oe m (inl q) =
+    absurd (earlier-irreflexive g (subst (λ (x : Entry). Earlier x g) (p ∙ sym q) (oe .0 g m)))
+later-member e f g es fs p oe m (inr n) = n
+
+pub ordered-same : (es fs : List Entry) → Ordered es → Ordered fs → ((g : Entry) → List·Memᴰ g es → List·Memᴰ g fs)
+    → ((g : Entry) → List·Memᴰ g fs → List·Memᴰ g es) → es ≡ fs
+ordered-same [] [] oe of there back = refl
+ordered-same [] (f ∷ fs) oe of there back = absurd (List·Memᴰ·not-nil (back f (List·Memᴰ·head refl)))
+ordered-same (e ∷ es) [] oe of there back = absurd (List·Memᴰ·not-nil (there e (List·Memᴰ·head refl)))
+ordered-same (e ∷ es) (f ∷ fs) oe of there back =
+    let p =
+    same-first e f es fs oe of (List·Memᴰ·cases-cons (there e (List·Memᴰ·head refl)))
+    (List·Memᴰ·cases-cons (back f (List·Memᴰ·head refl))) in
+    ap₂ (λ (g : Entry) (gs : List Entry). g ∷ gs) p
+    (ordered-same es fs (oe .1) (of .1)
+    (λ g m. later-member e f g es fs p oe m (List·Memᴰ·cases-cons (there g (List·Memᴰ·tail m))))
+    (λ g m. later-member f e g fs es (sym p) of m (List·Memᴰ·cases-cons (back g (List·Memᴰ·tail m)))))

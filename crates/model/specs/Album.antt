@@ -2,23 +2,7 @@
 use Prim.Native.Nat.{ℕ}
 use mathlib.Core.List.{List, [], _∷_, _++_}
 use Rattle.model.specs.Bounds.{noParent, missing}
-use Rattle.model.specs.Bytes.{bytes2, bytes4}
-
--- a table's first 6 bytes: columns, parent table, rows
-unfoldable pub headOf : ℕ → ℕ → ℕ → List ℕ
-headOf columns parent rows = bytes2 columns ++ bytes2 parent ++ bytes2 rows
-
--- a row: its parent row and its codes
-unfoldable pub codesOf : List ℕ → List ℕ
-codesOf [] = []
-codesOf (c ∷ cs) = bytes4 c ++ codesOf cs
-
-unfoldable pub rowOf : ℕ → List ℕ → List ℕ
-rowOf parent codes = bytes2 parent ++ codesOf codes
-
--- the trailer: the tables' offsets, how many, and its own offset
-unfoldable pub trailerOf : List ℕ → ℕ → ℕ → List ℕ
-trailerOf offsets tables at = codesOf offsets ++ bytes2 tables ++ bytes4 at
+use Rattle.model.specs.Encode.{headOf, rowOf, trailerOf}
 
 -- table 0 has one column and the rows 5, 5, missing; table 1 has parent 0, two columns and four rows. 84 bytes
 unfoldable pub album : List ℕ

@@ -10,7 +10,7 @@ use Rattle.model.specs.Bytes.{bytes2, bytes4}
 use Rattle.model.specs.Refusal.{firstOf}
 use Rattle.model.specs.Catalogue.{tables, rows}
 use Rattle.model.specs.Check.{Accepted, checkCode, sizeCode, trailerCode, headCode, boundCode, parentCode, widthCode, extentCode, rowCode, leftCode}
-use Rattle.model.specs.Album.{headOf, rowOf, trailerOf}
+use Rattle.model.specs.Encode.{headOf, rowOf, trailerOf}
 
 -- every ground in a file, in the order of the check: not only the first
 unfoldable pub groundsFrom : List ℕ → ℕ → ℕ → List ℕ

@@ -14,8 +14,11 @@ pub mod Listing
 pub mod Calls
 pub mod Demand
 pub mod List
-pub mod Packed
+pub mod Entries
+pub mod Packing
+pub mod Reading
 pub mod Text
+pub mod Encode
 pub mod Album
 pub mod Damaged
 pub mod Line

@@ -14,7 +14,7 @@ use Rattle.model.specs.Target.{owner, ancestor, agreeAt, view}
 use Rattle.model.specs.Entry.{entry}
 use Rattle.model.specs.Listing.{rightsOf, cells, ordinary}
 use Rattle.model.specs.Calls.{flat}
-use Rattle.model.specs.Album.{headOf, rowOf, trailerOf}
+use Rattle.model.specs.Encode.{headOf, rowOf, trailerOf}
 
 -- four tables, each the parent of the next. The rows of table 3 lead to these rows of tables 2, 1 and 0:
 --   row 0 to 2, 0, 2; row 1 to 0, 1, 0; row 2 to 1, 2, 0; row 3 to 0, 1, 0

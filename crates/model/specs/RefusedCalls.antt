@@ -13,8 +13,9 @@ use Rattle.model.specs.Entry.{entry}
 use Rattle.model.specs.Listing.{cells, ordinary}
 use Rattle.model.specs.Calls.{placeCode, roomCode}
 use Rattle.model.specs.List.{listCode}
-use Rattle.model.specs.Packed as list
-use Rattle.model.specs.Packed.{entriesIn, entriesCode, outputCode, packCode, packed, readCode}
+use Rattle.model.specs.Entries.{entriesCode}
+use Rattle.model.specs.Packing.{outputCode, packCode, packed}
+use Rattle.model.specs.Reading.{entriesHeld, readCode, tailCode}
 use Rattle.model.specs.Album.{album}
 use Rattle.model.specs.Damaged.{notZero, cut, noTable, lateTable, manyColumns, ownParent, tooWide, unknownParentRow}
 use Rattle.model.specs.declared.Entry.{Entry}
@@ -40,7 +41,7 @@ ListOnly b place budget room words =
     ∷ [])
 
 abbrev pub ReadOnly : List ℕ → ℕ → Type 0
-ReadOnly b = OnlyOf (readCode b) (list.listCode b ∷ entriesCode (entriesIn b) ∷ [])
+ReadOnly b = OnlyOf (readCode b) (tailCode b ∷ entriesCode (entriesHeld b) ∷ [])
 
 abbrev pub PackOnly : List Entry → ℕ → ℕ → Type 0
 PackOnly es room = OnlyOf (packCode es room) (entriesCode es ∷ outputCode (length es) room ∷ [])

@@ -11,7 +11,8 @@ use Rattle.model.specs.Question.{askMeaning, PairMeaning}
 use Rattle.model.specs.Entry.{entry}
 use Rattle.model.specs.Calls.{Seen, workAfter}
 use Rattle.model.specs.List.{ListMeaning}
-use Rattle.model.specs.Packed.{packed, packMeaning, outputAfter, openMeaning, entriesRead, frontRead, readFrom, readMeaning, runRead, readAt}
+use Rattle.model.specs.Packing.{packed, packMeaning, outputAfter}
+use Rattle.model.specs.Reading.{openMeaning, entriesRead, frontRead, readFrom, readMeaning, runRead, readAt}
 use Rattle.model.specs.Text.{decimal, entryLine, refusedLine, answerText}
 use Rattle.model.specs.Album.{album, noRows}
 use Rattle.model.specs.Damaged.{cut, tooWide}

@@ -21,6 +21,12 @@ pub const MISSING: u32 = 4294967295;
 // The right side that stands for the row itself.
 pub const ROW: u32 = 255;
 
+// The bytes of an entry in a packed list, and those of the list's trailer: `entryBytes` of specs/Entries.antt and
+// `trailerBytes` of specs/Packing.antt.
+pub const ENTRY_BYTES: usize = 4;
+
+pub const TRAILER_BYTES: usize = 8;
+
 // An entry of a listing: in the target table, the left side gives the right side. Laid out as in C, so that hosts can lend runs of them.
 #[repr(C)]
 pub struct Entry {

@@ -27,7 +27,7 @@ use denote.Struct.Laws as struct
 use denote.Triple.Spec.{tripleOf}
 use denote.Triple.Statement.{Contract}
 use denote.Triple.Clauses.{ensured, lasts}
-use Rattle.model.specs.Packed.{entryAt}
+use Rattle.model.specs.Entries.{entryAt}
 use Rattle.model.specs.declared.Entry.{Entry}
 use Rattle.model.proofs.Entry as R
 use Rattle.model.proofs.Entry.Laws as R′

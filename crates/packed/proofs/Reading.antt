@@ -8,7 +8,7 @@ use lib.ListN.{length}
 use denote.Ref.{RefT, now}
 use Rattle.columns.proofs.Test.{ifEq-yes, ifEq-no, ifLt-yes, ifLt-no}
 use Rattle.model.specs.Reply.{refused, answered, replyOf, openReply}
-use Rattle.model.specs.Packed.{countIn, distanceIn, entriesRead, frontRead, readCode, openMeaning, readAt}
+use Rattle.model.specs.Reading.{countIn, distanceIn, entriesRead, frontRead, readCode, openMeaning, readAt}
 use Rattle.model.specs.declared.Entry.{Entry}
 use Rattle.model.specs.declared.OpenAnswer.{OpenAnswer}
 use Rattle.model.specs.declared.OpenAnswer.the-variants.{Opened, Refused}
@@ -19,22 +19,22 @@ use Rattle.packed.specs.declared.Reader.{Reader}
 use Rattle.packed.proofs.Opening.{answered-by, refused-by}
 
 -- a reply says whether there is a ground
-module _ (b : List ℕ) where
-  accepts : {v : List ℕ} → answered v ≡ openMeaning b → readCode b ≡ 0
+module _ (file : List ℕ) where
+  accepts : {v : List ℕ} → answered v ≡ openMeaning file → readCode file ≡ 0
   unfolding openMeaning
-  accepts p = answered-by (readCode b) (countIn b ∷ (length b - distanceIn b) ∷ []) p .0
+  accepts p = answered-by (readCode file) (countIn file ∷ (length file - distanceIn file) ∷ []) p .0
 
-  refuses : {k : ℕ} → refused k ≡ openMeaning b → readCode b ≡ 0 → ⊥
+  refuses : {k : ℕ} → refused k ≡ openMeaning file → readCode file ≡ 0 → ⊥
   unfolding openMeaning
-  refuses p = refused-by (readCode b) (countIn b ∷ (length b - distanceIn b) ∷ []) p .1
+  refuses p = refused-by (readCode file) (countIn file ∷ (length file - distanceIn file) ∷ []) p .1
 
   -- so what may be read by the answer is what may be read of the file
-  pub entries-by : (a : OpenAnswer) → openReply a ≡ openMeaning b → entriesBy a b ≡ entriesRead b
+  pub entries-by : (a : OpenAnswer) → openReply a ≡ openMeaning file → entriesBy a file ≡ entriesRead file
   unfolding entriesBy entriesRead
   entries-by (Opened k n) p = sym (ifEq-yes _ (accepts p))
   entries-by (Refused r) p = sym (ifEq-no _ (refuses p))
 
-  pub front-by : (a : OpenAnswer) → openReply a ≡ openMeaning b → frontBy a b ≡ frontRead b
+  pub front-by : (a : OpenAnswer) → openReply a ≡ openMeaning file → frontBy a file ≡ frontRead file
   unfolding frontBy frontRead
   front-by (Opened k n) p = sym (ifEq-yes _ (accepts p))
   front-by (Refused r) p = sym (ifEq-no _ (refuses p))
@@ -66,7 +66,8 @@ module _ (f : RefT (List ℕ)) (r : Reader) (h : Begun f r) where
   reply (suc n) = reply n
 
   held : (n : ℕ) → entriesBy (after n r .answer) (now (after n r .list)) ≡ entriesRead (now f)
-  held n = ap (λ (g : RefT (List ℕ)). entriesBy (after n r .answer) (now g)) (over n) ∙ entries-by (now f) (after n r .answer) (reply n)
+  held n = ap (λ (g : RefT (List ℕ)). entriesBy (after n r .answer) (now g)) (over n)
+      ∙ entries-by (now f) (after n r .answer) (reply n)
 
   position : (n : ℕ) → after n r .at ≡ min n (length (entriesRead (now f)))
   position zero = h .first ∙ omega arith
@@ -82,11 +83,13 @@ module _ (f : RefT (List ℕ)) (r : Reader) (h : Begun f r) where
         entries = answers;
         ends = λ n l. answers n ∙ read-past (entriesRead (now f)) n l;
         opened = reply;
-        front = λ n. ap (λ (g : RefT (List ℕ)). frontBy (after n r .answer) (now g)) (over n) ∙ front-by (now f) (after n r .answer) (reply n);
+        front = λ n. ap (λ (g : RefT (List ℕ)). frontBy (after n r .answer) (now g)) (over n)
+            ∙ front-by (now f) (after n r .answer) (reply n);
       }
 
 -- the reader of a refused file and that of an accepted one, an empty list for one, differ in what `open` answered
-pub refused-differs : (f g : RefT (List ℕ)) (r s : Reader) → Begun f r → Begun g s → (readCode (now f) ≡ 0 → ⊥) → readCode (now g) ≡ 0
+pub refused-differs : (f g : RefT (List ℕ)) (r s : Reader) → Begun f r → Begun g s → (readCode (now f) ≡ 0 → ⊥)
+    → readCode (now g) ≡ 0
     → r .answer ≡ s .answer → ⊥
 unfolding openMeaning replyOf
 refused-differs f g r s h k n e p =

@@ -1,24 +1,28 @@
--- The trailer's two numbers are read back behind any bytes; and a list that is one (no ground by 14) has the trailer that its numbers say.
-use Prim.Native.Nat.{ℕ, _+_, _-_, _*_, _≤_, _<_}
-use mathlib.Core.Path.{_≡_, refl, sym, ap, _∙_}
-use mathlib.Core.List.{List, [], _∷_, _++_}
+-- The trailer's two numbers are read back behind any bytes; and a list that is one (no ground by 14) has the trailer
+-- that its numbers say.
+use Prim.Native.Nat.{ℕ, _+_, _-_, _≤_, _<_}
+use mathlib.Core.Path.{_≡_, ap, _∙_}
+use mathlib.Core.List.{List, [], _++_}
 use native.Mathlib.Omega.{arith}
 use lib.ListN.{length, length-append}
-use Rattle.columns.specs.Test.{ifEq, ifLt}
 use Rattle.columns.proofs.Test.{ifEq-yes, ifLt-no}
 use Rattle.model.specs.Bytes.{u32At, bytes4}
-use Rattle.model.specs.Packed.{countIn, distanceIn, distanceOf, listCode}
+use Rattle.model.specs.Refusal.{number}
+use Rattle.model.specs.Packing.{trailerBytes, distanceOf}
+use Rattle.model.specs.Reading.{countIn, distanceIn, tailCode}
+use Rattle.model.specs.declared.Refusal.the-variants.{NoList}
 use Rattle.entries.proofs.Grounds.{no-lt, no-ne}
-use Rattle.entries.proofs.Bytes.{u32-after, u32-of-bytes4}
+use Rattle.file.proofs.Numbers.{u32-after, u32-of-bytes4}
 
-pub length-trailer : (xs : List ℕ) (k d : ℕ) → length (xs ++ (bytes4 k ++ bytes4 d)) ≡ length xs + 8
+pub length-trailer : (xs : List ℕ) (k d : ℕ) → length (xs ++ (bytes4 k ++ bytes4 d)) ≡ length xs + trailerBytes
 unfolding bytes4
 length-trailer xs k d = length-append xs (bytes4 k ++ bytes4 d)
 
 pub count-of : (xs : List ℕ) (k d : ℕ) → k < 4294967296 → countIn (xs ++ (bytes4 k ++ bytes4 d)) ≡ k
 unfolding countIn
 count-of xs k d h =
-    let p : length (xs ++ (bytes4 k ++ bytes4 d)) - 8 ≡ length xs + 0 = omega (arith, length-trailer xs k d) in
+    let p : length (xs ++ (bytes4 k ++ bytes4 d)) - trailerBytes ≡ length xs + 0 =
+    omega (arith, length-trailer xs k d) in
     ap (u32At (xs ++ (bytes4 k ++ bytes4 d))) p
     ∙ u32-after xs (bytes4 k ++ bytes4 d) 0
     ∙ u32-of-bytes4 k (bytes4 d) h
@@ -33,20 +37,24 @@ distance-of xs k d h =
     let p : length (xs ++ (bytes4 k ++ bytes4 d)) - 4 ≡ length xs + 4 = omega (arith, length-trailer xs k d) in
     ap (u32At (xs ++ (bytes4 k ++ bytes4 d))) p ∙ u32-after xs (bytes4 k ++ bytes4 d) 4 ∙ second-word k d h
 
--- what 14 leaves
-pub record Listed (b : List ℕ) : Type 0 where
-  pub trailer : 8 ≤ length b
-  pub distance : distanceIn b ≡ distanceOf (countIn b)
-  pub fits : distanceIn b ≤ length b
+-- 14 is a ground, and what it leaves
+pub list-some : number NoList ≡ 0 → ⊥
+list-some z = omega arith
 
-pub listed : (b : List ℕ) → listCode b ≡ 0 → Listed b
-unfolding listCode
-listed b h =
-    let p = no-lt (length b) 8 14 (ifEq (distanceIn b) (distanceOf (countIn b)) (ifLt (length b) (distanceIn b) 14 0) 14) (λ z. omega arith) h in
-    let q = no-ne (distanceIn b) (distanceOf (countIn b)) (ifLt (length b) (distanceIn b) 14 0) 14 (λ z. omega arith) (p .1) in
-    let r = no-lt (length b) (distanceIn b) 14 0 (λ z. omega arith) (q .1) in
+pub record Listed (file : List ℕ) : Type 0 where
+  pub trailer : trailerBytes ≤ length file
+  pub distance : distanceIn file ≡ distanceOf (countIn file)
+  pub fits : distanceIn file ≤ length file
+
+pub listed : (file : List ℕ) → tailCode file ≡ 0 → Listed file
+unfolding tailCode
+listed file h =
+    let p = no-lt (length file) trailerBytes (number NoList) _ list-some h in
+    let q = no-ne (distanceIn file) (distanceOf (countIn file)) _ (number NoList) list-some (p .1) in
+    let r = no-lt (length file) (distanceIn file) (number NoList) 0 list-some (q .1) in
     record { trailer = p .0; distance = q .0; fits = r .0 }
 
-pub lists : (b : List ℕ) → Listed b → listCode b ≡ 0
-unfolding listCode
-lists b l = ifLt-no 14 (l .trailer) ∙ ifEq-yes 14 (l .distance) ∙ ifLt-no 14 (l .fits)
+pub lists : (file : List ℕ) → Listed file → tailCode file ≡ 0
+unfolding tailCode
+lists file l = ifLt-no (number NoList) (l .trailer) ∙ ifEq-yes (number NoList) (l .distance)
+    ∙ ifLt-no (number NoList) (l .fits)

@@ -1,10 +1,11 @@
--- A reading of a packed list goes entry by entry over the lent file ("Packed list"): the readers that a reading comes to, and what they answer.
+-- A reading of a packed list goes entry by entry over the lent file ("Packed list"): the readers that a reading comes
+-- to, and what they answer.
 use Prim.Native.Nat.{ℕ, zero, suc, _≤_}
 use mathlib.Core.Path.{_≡_}
 use mathlib.Core.List.{List}
 use lib.ListN.{length}
 use denote.Ref.{RefT, now}
-use Rattle.model.specs.Packed.{entriesRead, frontRead, openMeaning, readAt}
+use Rattle.model.specs.Reading.{entriesRead, frontRead, openMeaning, readAt}
 use Rattle.model.specs.Reply.{openReply}
 use Rattle.model.specs.declared.ReadAnswer.{ReadAnswer}
 use Rattle.model.specs.declared.ReadAnswer.the-variants.{End}
@@ -32,7 +33,8 @@ abbrev pub after : ℕ → Reader → Reader
 after zero r = r
 after (suc n) r = advanced (after n r)
 
--- a reading from r is that of the file f, at every step: its answers are the entries that may be read, in order, and then 'end'
+-- a reading from r is that of the file f, at every step: its answers are the entries that may be read, in order, and
+-- then 'end'
 pub record Reads (f : RefT (List ℕ)) (r : Reader) : Type 0 where
   pub entries : (n : ℕ) → nextOf (after n r) ≡ readAt (entriesRead (now f)) n
   pub ends : (n : ℕ) → length (entriesRead (now f)) ≤ n → nextOf (after n r) ≡ End

@@ -2,16 +2,18 @@
 use Prim.Native.Nat.{ℕ}
 use mathlib.Core.Path.{_≡_}
 use mathlib.Core.List.{List, _++_}
-use Rattle.model.specs.Packed.{packed, entriesIn, frontOf, readCode, entriesCode}
+use Rattle.model.specs.Entries.{entriesCode}
+use Rattle.model.specs.Packing.{packed}
+use Rattle.model.specs.Reading.{entriesHeld, frontOf, readCode}
 use Rattle.model.specs.declared.Entry.{Entry}
 
 -- a packed list behind any front is accepted, and is read as its entries and its front
 pub record ReadsBack (front : List ℕ) (es : List Entry) : Type 0 where
   pub accepted : readCode (front ++ packed es) ≡ 0
-  pub entries : entriesIn (front ++ packed es) ≡ es
+  pub entries : entriesHeld (front ++ packed es) ≡ es
   pub before : frontOf (front ++ packed es) ≡ front
 
 -- the entries read from a list have no ground, and with the front pack into its bytes
-pub record PacksBack (b : List ℕ) : Type 0 where
-  pub accepted : entriesCode (entriesIn b) ≡ 0
-  pub bytes : frontOf b ++ packed (entriesIn b) ≡ b
+pub record PacksBack (file : List ℕ) : Type 0 where
+  pub accepted : entriesCode (entriesHeld file) ≡ 0
+  pub bytes : frontOf file ++ packed (entriesHeld file) ≡ file

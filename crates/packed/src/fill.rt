@@ -3,10 +3,11 @@
 ghost use mathlib.Core.Path.{_≡_};
 ghost use lib.ListN.{length};
 ghost use Rattle.model.specs.Reply.{entriesReply};
-ghost use Rattle.model.specs.Packed.{readMeaning, runRead};
+ghost use Rattle.model.specs.Reading.{readMeaning, runRead};
 ghost use Rattle.packed.specs.Filling.{Planned};
 use crate::open;
 use entries::entry_from;
+use model::ENTRY_BYTES;
 use model::EntriesAnswer;
 use model::Entry;
 use model::OpenAnswer;
@@ -42,7 +43,7 @@ pub fn read(file: &[u8], from: usize, run: &mut [Entry]) -> EntriesAnswer
     while n < s.count {
         run[n] = entry_from(file, at);
         n += 1;
-        at += 4;
+        at += ENTRY_BYTES;
     }
     s.answer
 }

@@ -10,14 +10,17 @@ pub use fill::read;
 ghost use mathlib.Core.Path.{_≡_};
 ghost use lib.ListN.{length};
 ghost use Rattle.model.specs.Reply.{openReply, packReply};
-ghost use Rattle.model.specs.Packed.{frontRead, openMeaning, packMeaning, outputAfter};
+ghost use Rattle.model.specs.Packing.{packMeaning, outputAfter};
+ghost use Rattle.model.specs.Reading.{frontRead, openMeaning};
 ghost use Rattle.packed.specs.Reading.{Begun, nextOf, frontHeld, advanced};
 use entries::entries_ok;
+use model::ENTRY_BYTES;
 use model::Entry;
 use model::OpenAnswer;
 use model::PackAnswer;
 use model::ReadAnswer;
 use model::Refusal;
+use model::TRAILER_BYTES;
 use packing::first_pass;
 use packing::step;
 use unpacking::count_in;
@@ -30,12 +33,12 @@ use unpacking::position_after;
 pub fn open(file: &[u8]) -> OpenAnswer
     ensures { λ r. ⌜ openReply r ≡ openMeaning (now (file .entry)) ⌝ }
 {
-    if file.len() < 8 {
+    if file.len() < TRAILER_BYTES {
         return OpenAnswer::Refused(Refusal::NoList);
     }
     let count = count_in(file);
     let distance = distance_in(file);
-    if distance != 4 * (count as usize) + 8 {
+    if distance != ENTRY_BYTES * (count as usize) + TRAILER_BYTES {
         return OpenAnswer::Refused(Refusal::NoList);
     }
     if file.len() < distance {

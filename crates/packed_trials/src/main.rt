@@ -4,7 +4,7 @@
 ghost use mathlib.Core.Path.{_≡_};
 ghost use lib.ListN.{length};
 ghost use Rattle.model.specs.Reply.{packReply};
-ghost use Rattle.model.specs.Packed.{packMeaning, outputAfter};
+ghost use Rattle.model.specs.Packing.{packMeaning, outputAfter};
 use libc::STDOUT_FILENO;
 use model::Entry;
 use model::OpenAnswer;

@@ -1,5 +1,5 @@
 -- The two passes of packing, step by step: what holds between two steps (`On`) holds after each.
-use Prim.Native.Nat.{ℕ, zero, suc, _+_, _-_, _*_, _≤_, _<_}
+use Prim.Native.Nat.{ℕ, _+_, _-_, _*_, _≤_, _<_}
 use mathlib.Core.Path.{_≡_, refl, sym, ap, _∙_, subst}
 use mathlib.Core.List.{List, [], _∷_, _++_}
 use mathlib.Core.Bool.{Bool, true, false, not, true≢false, false≢true}
@@ -10,23 +10,22 @@ use lib.Dec.{ltb}
 use lib.ListN.{length, getD, take, drop}
 use lib.Seq.{sets, drop-cons, take-all, drop-length}
 use borrow.Author.Tests.{ltb-true, ltb-false, not-true, not-false}
-use Rattle.columns.specs.Test.{ifEq, ifLt}
+use Rattle.columns.specs.Test.{ifEq}
 use Rattle.columns.proofs.Test.{ifEq-yes, ifEq-no, ifLt-yes, ifLt-no, is-if-eq, is-if-ne}
-use Rattle.model.specs.Bytes.{bytes4}
 use Rattle.model.specs.Entry.{entry}
 use Rattle.model.specs.Refusal.{number, orElse}
-use Rattle.model.specs.Reply.{Reply, refused, answered, packReply}
-use Rattle.model.specs.Packed.{bytesOf, entriesBytes, packed, distanceOf, entryCode, laterCode, restCode, entriesCode, outputCode, packCode, packMeaning, outputAfter}
+use Rattle.model.specs.Reply.{refused, answered, packReply}
+use Rattle.model.specs.Entries.{entryBytes, bytesOf, entriesBytes, entryCode, laterCode, restCode, entriesCode}
+use Rattle.model.specs.Packing.{packed, distanceOf, outputCode, packCode, packMeaning, outputAfter}
 use Rattle.model.specs.declared.Entry.{Entry}
-use Rattle.model.specs.declared.PackAnswer.{PackAnswer}
-use Rattle.model.specs.declared.PackAnswer.the-variants.{Packed, Refused}
+use Rattle.model.specs.declared.PackAnswer.the-variants.{Refused}
 use Rattle.model.specs.declared.Refusal.the-variants.{BadEntry, OutputTooShort}
 use Rattle.entries.specs.Verdict.{badUnless}
 use Rattle.packing.specs.declared.Packing.{Packing}
 use Rattle.packing.specs.Packing.{On, Finished, Passed, Started, Ready, Stepped, steps, stepsOf}
-use Rattle.model.proofs.Grounds.{orElse-next, orElse-first, orElse-right, orElse-zero, orElse-assoc}
-use Rattle.model.proofs.Grounds.{reply-refused, reply-answered}
+use Rattle.model.proofs.Grounds.{orElse-both, orElse-first, orElse-next, reply-refused, reply-answered, orElse-zero, orElse-assoc}
 use Rattle.entries.proofs.Grounds.{no-lt}
+use Rattle.entries.proofs.Checks.{bad-some}
 use Rattle.packing.proofs.Writes.{writes-entry, writes-trailer}
 
 -- the three ways to stand
@@ -45,7 +44,7 @@ module _ (es : List Entry) (o : List ℕ) (s : Packing) (out : List ℕ) where
       }
 
   on-writing : s .going ≡ true → s .writing ≡ true → s .at < length es → packCode es (length o) ≡ 0
-      → out ≡ entriesBytes (take (s .at) es) ++ drop (4 * s .at) o → On es o s out
+      → out ≡ entriesBytes (take (s .at) es) ++ drop (entryBytes * s .at) o → On es o s out
   on-writing g w n z e =
       record {
         next = λ _. n;
@@ -57,7 +56,8 @@ module _ (es : List Entry) (o : List ℕ) (s : Packing) (out : List ℕ) where
         output = λ x. absurd (true≢false (sym g ∙ x));
       }
 
-  on-stopped : s .going ≡ false → packReply (s .answer) ≡ packMeaning es (length o) → out ≡ outputAfter es o → On es o s out
+  on-stopped : s .going ≡ false → packReply (s .answer) ≡ packMeaning es (length o) → out ≡ outputAfter es o
+      → On es o s out
   on-stopped g a e =
       record {
         next = λ x. absurd (false≢true (sym g ∙ x));
@@ -70,7 +70,8 @@ module _ (es : List Entry) (o : List ℕ) (s : Packing) (out : List ℕ) where
       }
 
   -- a refusal by a number: nothing is written
-  on-refused : {n : ℕ} → s .going ≡ false → packReply (s .answer) ≡ refused n → n ≡ packCode es (length o) → (n ≡ 0 → ⊥) → out ≡ o
+  on-refused : {n : ℕ} → s .going ≡ false → packReply (s .answer) ≡ refused n → n ≡ packCode es (length o) → (n ≡ 0 → ⊥)
+      → out ≡ o
       → On es o s out
   unfolding packMeaning outputAfter
   on-refused g a e z p =
@@ -80,70 +81,86 @@ module _ (es : List Entry) (o : List ℕ) (s : Packing) (out : List ℕ) where
 pub steps-stopped : (k : ℕ) (s : Packing) → s .going ≡ false → steps k s ≡ 0
 steps-stopped k s g = ap (λ (x : Bool). stepsOf x (s .writing) (s .at) k) g
 
-pub steps-checking : (k : ℕ) (s : Packing) {i : ℕ} → s .going ≡ true → s .writing ≡ false → s .at ≡ i → steps k s ≡ k - i + k
+pub steps-checking : (k : ℕ) (s : Packing) {i : ℕ} → s .going ≡ true → s .writing ≡ false → s .at ≡ i
+    → steps k s ≡ k - i + k
 steps-checking k s {i} g w a =
-    ap (λ (x : Bool). stepsOf x (s .writing) (s .at) k) g ∙ ap (λ (x : Bool). stepsOf true x (s .at) k) w ∙ ap (λ (n : ℕ). k - n + k) a
+    ap (λ (x : Bool). stepsOf x (s .writing) (s .at) k) g ∙ ap (λ (x : Bool). stepsOf true x (s .at) k) w
+    ∙ ap (λ (n : ℕ). k - n + k) a
 
 pub steps-writing : (k : ℕ) (s : Packing) {i : ℕ} → s .going ≡ true → s .writing ≡ true → s .at ≡ i → steps k s ≡ k - i
 steps-writing k s {i} g w a =
-    ap (λ (x : Bool). stepsOf x (s .writing) (s .at) k) g ∙ ap (λ (x : Bool). stepsOf true x (s .at) k) w ∙ ap (λ (n : ℕ). k - n) a
+    ap (λ (x : Bool). stepsOf x (s .writing) (s .at) k) g ∙ ap (λ (x : Bool). stepsOf true x (s .at) k) w
+    ∙ ap (λ (n : ℕ). k - n) a
 
 -- 15 of all entries, and 16
-code-bad : (es : List Entry) (room : ℕ) → entriesCode es ≡ 15 → 15 ≡ packCode es room
-unfolding packCode
-code-bad es room e = sym (orElse-first _ (λ z. let y : _≡_ {A = ℕ} 15 0 = sym e ∙ z in omega arith) ∙ e)
+short-some : number OutputTooShort ≡ 0 → ⊥
+short-some z = omega arith
 
-code-short : (es : List Entry) (k room : ℕ) → length es ≡ k → entriesCode es ≡ 0 → room < 4 * k + 8 → 16 ≡ packCode es room
+code-bad : (es : List Entry) (room : ℕ) → entriesCode es ≡ number BadEntry → number BadEntry ≡ packCode es room
+unfolding packCode
+code-bad es room e = sym (orElse-first _ (λ z. bad-some (sym e ∙ z)) ∙ e)
+
+code-short : (es : List Entry) (k room : ℕ) → length es ≡ k → entriesCode es ≡ 0 → room < distanceOf k
+    → number OutputTooShort ≡ packCode es room
 unfolding packCode outputCode
 code-short es k room l e h = sym (orElse-next _ e ∙ ifLt-yes 0 (omega arith))
 
-code-none : (es : List Entry) (k room : ℕ) → length es ≡ k → entriesCode es ≡ 0 → 4 * k + 8 ≤ room → packCode es room ≡ 0
+code-none : (es : List Entry) (k room : ℕ) → length es ≡ k → entriesCode es ≡ 0 → distanceOf k ≤ room
+    → packCode es room ≡ 0
 unfolding packCode outputCode
-code-none es k room l e h = orElse-next _ e ∙ ifLt-no 16 (omega arith)
+code-none es k room l e h = orElse-next _ e ∙ ifLt-no (number OutputTooShort) (omega arith)
 
 -- no ground: there is room
-pub has-room : (es : List Entry) (room : ℕ) → packCode es room ≡ 0 → 4 * length es + 8 ≤ room
+pub has-room : (es : List Entry) (room : ℕ) → packCode es room ≡ 0 → distanceOf (length es) ≤ room
 unfolding packCode outputCode
-has-room es room h = no-lt room (4 * length es + 8) 16 0 (λ z. omega arith) (orElse-right (entriesCode es) _ h) .0
+has-room es room h =
+    no-lt room (distanceOf (length es)) (number OutputTooShort) 0 short-some (orElse-both (entriesCode es) _ h .1) .0
 
 -- all entries are written, and the trailer
 pub on-finished : (es : List Entry) (o out : List ℕ) (k : ℕ) (r : Packing) (out′ : List ℕ) → length es ≡ k
-    → packCode es (length o) ≡ 0 → out ≡ entriesBytes es ++ drop (4 * k) o → Finished k out r out′ → On es o r out′
+    → packCode es (length o) ≡ 0 → out ≡ entriesBytes es ++ drop (entryBytes * k) o → Finished k out r out′
+    → On es o r out′
 unfolding packMeaning outputAfter
 on-finished es o out k r out′ l z q f =
-    let d : 4 * length es + 8 ≡ 4 * k + 8 = omega arith in
+    let d : distanceOf (length es) ≡ distanceOf k = omega arith in
     on-stopped es o r out′ (f .stopped)
     (ap packReply (f .answer) ∙ ap (λ (n : ℕ). answered (n ∷ [])) (sym d) ∙ reply-answered _ z)
     (is-if-eq _ z
-    (f .trailer ∙ writes-trailer es o out k l (rw d at (has-room es (length o) z)) q ∙ ap (λ (n : ℕ). packed es ++ drop n o) (sym d)))
+    (f .trailer ∙ writes-trailer es o out k l (rw d at (has-room es (length o) z)) q
+    ∙ ap (λ (n : ℕ). packed es ++ drop n o) (sym d)))
 
 -- nothing is written of no entries
-none-written : (es : List Entry) (o : List ℕ) (k : ℕ) → length es ≡ k → k ≡ 0 → o ≡ entriesBytes es ++ drop (4 * k) o
+none-written : (es : List Entry) (o : List ℕ) (k : ℕ) → length es ≡ k → k ≡ 0
+    → o ≡ entriesBytes es ++ drop (entryBytes * k) o
 unfolding entriesBytes
-none-written [] o k l e = ap (λ (n : ℕ). drop (4 * n) o) (sym e)
+none-written [] o k l e = ap (λ (n : ℕ). drop (entryBytes * n) o) (sym e)
 none-written (f ∷ es) o k l e = absurd (omega arith)
 
-start-written : (es : List Entry) (o : List ℕ) → o ≡ entriesBytes (take 0 es) ++ drop (4 * 0) o
+start-written : (es : List Entry) (o : List ℕ) → o ≡ entriesBytes (take 0 es) ++ drop (entryBytes * 0) o
 unfolding entriesBytes
 start-written es o = refl
 
 -- the second pass begins
 module _ (es : List Entry) (o : List ℕ) (k : ℕ) (r : Packing) (l : length es ≡ k) (z : entriesCode es ≡ 0) where
-  pub begins-short : ltb (length o) (4 * k + 8) ≡ true → r .going ≡ false → r .answer ≡ Refused OutputTooShort → On es o r o
+  pub begins-short : ltb (length o) (distanceOf k) ≡ true → r .going ≡ false → r .answer ≡ Refused OutputTooShort
+      → On es o r o
   begins-short h g a =
-      on-refused es o r o g (ap packReply a) (code-short es k (length o) l z (ltb-true _ _ h)) (λ y. omega arith) refl
+      on-refused es o r o g (ap packReply a) (code-short es k (length o) l z (ltb-true _ _ h)) short-some refl
 
-  pub begins-empty : (out′ : List ℕ) → ltb (length o) (4 * k + 8) ≡ false → k ≡ 0 → Finished k o r out′ → On es o r out′
+  pub begins-empty : (out′ : List ℕ) → ltb (length o) (distanceOf k) ≡ false → k ≡ 0 → Finished k o r out′
+      → On es o r out′
   begins-empty out′ h e f =
       on-finished es o o k r out′ l (code-none es k (length o) l z (ltb-false _ _ h)) (none-written es o k l e) f
 
-  pub begins-writing : ltb (length o) (4 * k + 8) ≡ false → (k ≡ 0 → ⊥) → r .going ≡ true → r .writing ≡ true → r .at ≡ 0 → On es o r o
+  pub begins-writing : ltb (length o) (distanceOf k) ≡ false → (k ≡ 0 → ⊥) → r .going ≡ true → r .writing ≡ true
+      → r .at ≡ 0 → On es o r o
   begins-writing h n g w a =
       on-writing es o r o g w (omega arith) (code-none es k (length o) l z (ltb-false _ _ h))
-      (start-written es o ∙ ap (λ (i : ℕ). entriesBytes (take i es) ++ drop (4 * i) o) (sym a))
+      (start-written es o ∙ ap (λ (i : ℕ). entriesBytes (take i es) ++ drop (entryBytes * i) o) (sym a))
 
 -- the first pass begins
-pub begins-checking : (es : List Entry) (o : List ℕ) (k : ℕ) (r : Packing) → length es ≡ k → (k ≡ 0 → ⊥) → r .going ≡ true
+pub begins-checking : (es : List Entry) (o : List ℕ) (k : ℕ) (r : Packing) → length es ≡ k → (k ≡ 0 → ⊥)
+    → r .going ≡ true
     → r .writing ≡ false → r .at ≡ 0 → On es o r o
 begins-checking es o k r l n g w a = on-checking es o r o g w (omega arith) refl (λ h. absurd (omega arith))
 
@@ -165,7 +182,8 @@ next-check : (es : List Entry) (before : Entry) (i : ℕ) → i < length es → 
 unfolding restCode
 next-check es before i h = rw (add-one i, drop-cons es i (entry 0 0 0) h) (orElse-assoc _ _ _)
 
-pub checks-step : (es : List Entry) (before : Entry) (i : ℕ) {e : Entry} (t : Bool) → i < length es → e ≡ getD es i (entry 0 0 0)
+pub checks-step : (es : List Entry) (before : Entry) (i : ℕ) {e : Entry} (t : Bool) → i < length es
+    → e ≡ getD es i (entry 0 0 0)
     → (0 < i → entriesCode es ≡ restCode before (drop i es))
     → badUnless t ≡ orElse (entryCode e) (ifEq i 0 0 (laterCode before e))
     → entriesCode es ≡ orElse (badUnless t) (restCode e (drop (i + 1) es))
@@ -174,7 +192,8 @@ checks-step es before i {e} t h p c b = go (ℕ-discrete i 0)
     go : Dec (i ≡ 0) → entriesCode es ≡ orElse (badUnless t) (restCode e (drop (i + 1) es))
     go (yes z) =
         first-check es (omega arith)
-        ∙ ap (λ (n : ℕ). orElse (entryCode (getD es n (entry 0 0 0))) (restCode (getD es n (entry 0 0 0)) (drop (n + 1) es))) (sym z)
+        ∙ ap (λ (n : ℕ). orElse (entryCode (getD es n (entry 0 0 0)))
+        (restCode (getD es n (entry 0 0 0)) (drop (n + 1) es))) (sym z)
         ∙ ap (λ (f : Entry). orElse (entryCode f) (restCode f (drop (i + 1) es))) (sym p)
         ∙ ap (λ (x : ℕ). orElse x (restCode e (drop (i + 1) es)))
         (sym (b ∙ ap (orElse (entryCode e)) (ifEq-yes _ z) ∙ orElse-zero (entryCode e)))
@@ -189,7 +208,8 @@ unfolding restCode
 all-checked es e n p = ap (λ (l : List Entry). restCode e l) (ap (λ (m : ℕ). drop m es) p ∙ drop-length es)
 
 -- a step of the first pass
-module _ (es : List Entry) (o : List ℕ) (s : Packing) (out : List ℕ) (k : ℕ) {e : Entry} (t : Bool) (g : s .going ≡ true) (w : s .writing ≡ false)
+module _ (es : List Entry) (o : List ℕ) (s : Packing) (out : List ℕ) (k : ℕ) {e : Entry} (t : Bool)
+    (g : s .going ≡ true) (w : s .writing ≡ false)
     (b : badUnless t ≡ orElse (entryCode e) (ifEq (s .at) 0 0 (laterCode (s .before) e)))
     (l : length es ≡ k) (p : e ≡ getD es (s .at) (entry 0 0 0)) (on : On es o s out) where
   stepped : entriesCode es ≡ orElse (badUnless t) (restCode e (drop (s .at + 1) es))
@@ -200,16 +220,18 @@ module _ (es : List Entry) (o : List ℕ) (s : Packing) (out : List ℕ) (k : �
 
   pub step-bad : (r : Packing) → not t ≡ true → r .going ≡ false → r .answer ≡ Refused BadEntry → On es o r out
   step-bad r f q a =
-      let u : badUnless t ≡ 15 = ap badUnless (not-true t f) in
+      let u : badUnless t ≡ number BadEntry = ap badUnless (not-true t f) in
       on-refused es o r out q (ap packReply a)
-      (code-bad es (length o) (stepped ∙ orElse-first _ (λ z. let y : _≡_ {A = ℕ} 15 0 = sym u ∙ z in omega arith) ∙ u))
-      (λ z. omega arith) (on .same g w)
+      (code-bad es (length o) (stepped ∙ orElse-first _ (λ z. bad-some (sym u ∙ z)) ∙ u))
+      bad-some (on .same g w)
 
-  pub step-more : (r : Packing) → not t ≡ false → s .at + 1 < k → r .going ≡ true → r .writing ≡ false → r .at ≡ s .at + 1 → r .before ≡ e
+  pub step-more : (r : Packing) → not t ≡ false → s .at + 1 < k → r .going ≡ true → r .writing ≡ false
+      → r .at ≡ s .at + 1 → r .before ≡ e
       → On es o r out
   step-more r f h q v a d =
       on-checking es o r out q v (omega arith) (on .same g w)
-      (λ _. went-on f ∙ sym (ap (λ (x : Entry). restCode x (drop (r .at) es)) d ∙ ap (λ (n : ℕ). restCode e (drop n es)) a))
+      (λ _. went-on f
+      ∙ sym (ap (λ (x : Entry). restCode x (drop (r .at) es)) d ∙ ap (λ (n : ℕ). restCode e (drop n es)) a))
 
   all-fine : not t ≡ false → k ≤ s .at + 1 → entriesCode es ≡ 0
   all-fine f h = went-on f ∙ all-checked es e (s .at + 1) (omega (arith, on .next g))
@@ -218,23 +240,24 @@ module _ (es : List Entry) (o : List ℕ) (s : Packing) (out : List ℕ) (k : �
   step-last r out′ f h y = subst (λ (x : List ℕ). On es x r out′) (on .same g w) (y .on es l (all-fine f h))
 
 -- a step of the second pass
-module _ (es : List Entry) (o out : List ℕ) (k i : ℕ) {e : Entry} {out′ : List ℕ} (h : i < k) (f : out′ ≡ sets out (4 * i) (bytesOf e))
+module _ (es : List Entry) (o out : List ℕ) (k i : ℕ) {e : Entry} {out′ : List ℕ} (h : i < k)
+    (f : out′ ≡ sets out (entryBytes * i) (bytesOf e))
     (l : length es ≡ k) (p : e ≡ getD es i (entry 0 0 0)) (z : packCode es (length o) ≡ 0)
-    (q : out ≡ entriesBytes (take i es) ++ drop (4 * i) o) where
-  written : out′ ≡ entriesBytes (take (i + 1) es) ++ drop (4 * (i + 1)) o
+    (q : out ≡ entriesBytes (take i es) ++ drop (entryBytes * i) o) where
+  written : out′ ≡ entriesBytes (take (i + 1) es) ++ drop (entryBytes * (i + 1)) o
   written = f ∙ writes-entry es o out i (omega arith) (omega (arith, has-room es (length o) z)) p q
 
   pub wrote-more : (r : Packing) → i + 1 < k → r .going ≡ true → r .writing ≡ true → r .at ≡ i + 1 → On es o r out′
   wrote-more r j g w a =
       on-writing es o r out′ g w (omega arith) z
-      (written ∙ ap (λ (n : ℕ). entriesBytes (take n es) ++ drop (4 * n) o) (sym a))
+      (written ∙ ap (λ (n : ℕ). entriesBytes (take n es) ++ drop (entryBytes * n) o) (sym a))
 
   pub wrote-last : (r : Packing) (out″ : List ℕ) → k ≤ i + 1 → Finished k out′ r out″ → On es o r out″
   wrote-last r out″ j y =
       let a : i + 1 ≡ k = omega arith in
       on-finished es o out′ k r out″ l z
-      (written ∙ ap (λ (n : ℕ). entriesBytes (take n es) ++ drop (4 * n) o) a
-      ∙ ap (λ (x : List Entry). entriesBytes x ++ drop (4 * k) o) (take-all k es (omega arith))) y
+      (written ∙ ap (λ (n : ℕ). entriesBytes (take n es) ++ drop (entryBytes * n) o) a
+      ∙ ap (λ (x : List Entry). entriesBytes x ++ drop (entryBytes * k) o) (take-all k es (omega arith))) y
 
 -- where a run of steps stands: what holds between two steps, with an output as long as at the start
 pub record Stands (es : List Entry) (o : List ℕ) (s : Packing) (out : List ℕ) : Type 0 where
@@ -242,7 +265,8 @@ pub record Stands (es : List Entry) (o : List ℕ) (s : Packing) (out : List ℕ
   pub long : length out ≡ length o
 
 module _ (es : List Entry) (o : List ℕ) where
-  pub stands-first : (r : Packing) (out : List ℕ) → Started (length es) o r out → length out ≡ length o → Stands es o r out
+  pub stands-first : (r : Packing) (out : List ℕ) → Started (length es) o r out → length out ≡ length o
+      → Stands es o r out
   stands-first r out h l = record { on = h .on es refl; long = l }
 
   module _ (s : Packing) (out : List ℕ) (h : Stands es o s out) where

@@ -1,14 +1,15 @@
 -- Packing passes the entries twice: it checks them, then it writes them. What holds between two steps.
 use Prim.Native.Nat.{ℕ, _+_, _-_, _*_, _≤_, _<_}
 use mathlib.Core.Path.{_≡_}
-use mathlib.Core.List.{List, [], _∷_, _++_}
+use mathlib.Core.List.{List, [], _++_}
 use mathlib.Core.Bool.{Bool, true, false}
 use lib.ListN.{length, getD, take, drop}
 use lib.Seq.{sets}
 use Rattle.model.specs.Bytes.{bytes4}
 use Rattle.model.specs.Entry.{entry}
 use Rattle.model.specs.Reply.{packReply}
-use Rattle.model.specs.Packed.{entriesBytes, entriesCode, restCode, packCode, packMeaning, outputAfter}
+use Rattle.model.specs.Entries.{entryBytes, entriesBytes, entriesCode, restCode}
+use Rattle.model.specs.Packing.{distanceOf, packCode, packMeaning, outputAfter}
 use Rattle.model.specs.declared.Entry.{Entry}
 use Rattle.model.specs.declared.PackAnswer.the-variants.{Packed}
 use Rattle.packing.specs.declared.Packing.{Packing}
@@ -19,10 +20,11 @@ pub record On (es : List Entry) (o : List ℕ) (s : Packing) (out : List ℕ) : 
   pub next : s .going ≡ true → s .at < length es
   -- checking: nothing is written, and the checks of all entries come to those of the ones to come
   pub same : s .going ≡ true → s .writing ≡ false → out ≡ o
-  pub checked : s .going ≡ true → s .writing ≡ false → 0 < s .at → entriesCode es ≡ restCode (s .before) (drop (s .at) es)
+  pub checked : s .going ≡ true → s .writing ≡ false → 0 < s .at
+      → entriesCode es ≡ restCode (s .before) (drop (s .at) es)
   -- writing: there is no ground, and the entries before are written
   pub sound : s .going ≡ true → s .writing ≡ true → packCode es (length o) ≡ 0
-  pub wrote : s .going ≡ true → s .writing ≡ true → out ≡ entriesBytes (take (s .at) es) ++ drop (4 * s .at) o
+  pub wrote : s .going ≡ true → s .writing ≡ true → out ≡ entriesBytes (take (s .at) es) ++ drop (entryBytes * s .at) o
   -- no more is to come
   pub answered : s .going ≡ false → packReply (s .answer) ≡ packMeaning es (length o)
   pub output : s .going ≡ false → out ≡ outputAfter es o
@@ -40,18 +42,23 @@ steps k s = stepsOf (s .going) (s .writing) (s .at) k
 pub record Ready (k : ℕ) (s : Packing) (out : List ℕ) : Type 0 where
   pub going : s .going ≡ true
   pub next : s .at < k
-  pub room : s .writing ≡ true → 4 * k + 8 ≤ length out
+  pub room : s .writing ≡ true → distanceOf k ≤ length out
 
 -- a step with the entry e: what holds still holds, with fewer steps to come
 pub record Stepped (k : ℕ) (s : Packing) (e : Entry) (out : List ℕ) (r : Packing) (out′ : List ℕ) : Type 0 where
-  pub on : (es : List Entry) (o : List ℕ) → length es ≡ k → e ≡ getD es (s .at) (entry 0 0 0) → On es o s out → On es o r out′
+  pub on : (es : List Entry) (o : List ℕ) → length es ≡ k → e ≡ getD es (s .at) (entry 0 0 0) → On es o s out
+      → On es o r out′
   pub fewer : steps k r < steps k s
+
+-- an output with the trailer behind k entries: their number, and the distance
+abbrev pub withTrailer : List ℕ → ℕ → List ℕ
+withTrailer out k = sets (sets out (entryBytes * k) (bytes4 k)) (entryBytes * k + 4) (bytes4 (distanceOf k))
 
 -- the trailer is written behind k entries, and no more is to come
 pub record Finished (k : ℕ) (out : List ℕ) (r : Packing) (out′ : List ℕ) : Type 0 where
   pub stopped : r .going ≡ false
-  pub answer : r .answer ≡ Packed (4 * k + 8)
-  pub trailer : out′ ≡ sets (sets out (4 * k) (bytes4 k)) (4 * k + 4) (bytes4 (4 * k + 8))
+  pub answer : r .answer ≡ Packed (distanceOf k)
+  pub trailer : out′ ≡ withTrailer out k
 
 -- k checked entries are to be written, or the output is too short
 pub record Passed (k : ℕ) (out : List ℕ) (r : Packing) (out′ : List ℕ) : Type 0 where
@@ -65,5 +72,5 @@ pub record Started (k : ℕ) (out : List ℕ) (r : Packing) (out′ : List ℕ) 
 -- the entry e is written at its index
 pub record Wrote (k i : ℕ) (e : Entry) (out : List ℕ) (r : Packing) (out′ : List ℕ) : Type 0 where
   pub on : (es : List Entry) (o : List ℕ) → length es ≡ k → e ≡ getD es i (entry 0 0 0) → packCode es (length o) ≡ 0
-      → out ≡ entriesBytes (take i es) ++ drop (4 * i) o → On es o r out′
+      → out ≡ entriesBytes (take i es) ++ drop (entryBytes * i) o → On es o r out′
   pub fewer : steps k r < k - i

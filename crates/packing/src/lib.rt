@@ -1,19 +1,23 @@
 // Not for callers: packing entries one by one, as `packed::pack` has them pass twice: `first_pass` begins, `step` goes on with the entry that is to
 // come, until an answer stands.
-// Relies on the definitions of `model` and on `entries` for 15. Called by `packed`.
-ghost use Prim.Native.Nat.{_+_, _*_, _%_, _≤_, _<_};
+// Relies on the definitions of `model`, on `file` for numbers in a file and on `entries` for 15. Called by `packed`.
+ghost use Prim.Native.Nat.{_+_, _≤_, _<_};
 ghost use mathlib.Core.Path.{_≡_};
 ghost use mathlib.Core.Bool.{true, false};
 ghost use lib.Dec.{ltb};
 ghost use lib.ListN.{length};
 ghost use lib.Seq.{sets};
-ghost use Rattle.model.specs.Bytes.{bytes4};
-ghost use Rattle.model.specs.Packed.{bytesOf};
+ghost use Rattle.model.specs.Entries.{entryBytes, bytesOf};
+ghost use Rattle.model.specs.Packing.{distanceOf};
 ghost use Rattle.packing.specs.Packing.{Started, Passed, Wrote, Finished, Ready, Stepped};
 use entries::fine_after;
+use file::put_u16;
+use file::put_u32;
+use model::ENTRY_BYTES;
 use model::Entry;
 use model::PackAnswer;
 use model::Refusal;
+use model::TRAILER_BYTES;
 
 // Where packing stands: the entries are passed twice, first to check them, then to write them. While it is going on, an entry is to come:
 // the pass, its index, and the entry before it. Else the answer.
@@ -25,44 +29,25 @@ pub struct Packing {
     pub answer: PackAnswer,
 }
 
-// The lowest byte of a number.
-fn low(x: usize) -> u8
-    ensures { λ r. ⌜ r ≡ x % 256 ⌝ }
-{
-    (x % 256) as u8
-}
-
-// Writes a 4-byte number.
-fn put_u32(out: &mut [u8], at: usize, x: usize)
-    requires { ⌜ at + 4 ≤ length (now out) ⌝ }
-    ensures { λ _. ⌜ now (out .exit) ≡ sets (now (out .entry)) at (bytes4 x) ⌝ }
-{
-    out[at] = low(x);
-    out[at + 1] = low(x / 256);
-    out[at + 2] = low(x / 65536);
-    out[at + 3] = low(x / 16777216);
-}
-
 // Writes an entry.
 fn put_entry(out: &mut [u8], at: usize, e: Entry)
-    requires { ⌜ at + 4 ≤ length (now out) ⌝ }
+    requires { ⌜ at + entryBytes ≤ length (now out) ⌝ }
     ensures { λ _. ⌜ now (out .exit) ≡ sets (now (out .entry)) at (bytesOf e) ⌝ }
 {
     let left = e.left as usize;
     out[at] = e.target;
     out[at + 1] = e.right;
-    out[at + 2] = low(left);
-    out[at + 3] = low(left / 256);
+    put_u16(out, at + 2, left);
 }
 
 // Is the output too short for k entries and the trailer?
 fn too_short(k: usize, room: usize) -> bool
-    ensures { λ r. ⌜ r ≡ ltb room (4 * k + 8) ⌝ }
+    ensures { λ r. ⌜ r ≡ ltb room (distanceOf k) ⌝ }
 {
-    if room < 8 {
+    if room < TRAILER_BYTES {
         return true;
     }
-    (room - 8) / 4 < k
+    (room - TRAILER_BYTES) / ENTRY_BYTES < k
 }
 
 // No entry is to come.
@@ -97,12 +82,14 @@ fn going_on(writing: bool, at: usize, before: Entry) -> Packing
 
 // All entries are written: writes the trailer behind them.
 fn finish(k: usize, out: &mut [u8]) -> Packing
-    requires { ⌜ 4 * k + 8 ≤ length (now out) ⌝ }
+    requires { ⌜ distanceOf k ≤ length (now out) ⌝ }
     ensures { λ r. ⌜ Finished k (now (out .entry)) r (now (out .exit)) ⌝ }
 {
-    put_u32(out, 4 * k, k);
-    put_u32(out, 4 * k + 4, 4 * k + 8);
-    stopped(PackAnswer::Packed { bytes: 4 * k + 8 })
+    let behind = ENTRY_BYTES * k;
+    let bytes = behind + TRAILER_BYTES;
+    put_u32(out, behind, k);
+    put_u32(out, behind + 4, bytes);
+    stopped(PackAnswer::Packed { bytes: bytes })
 }
 
 // All entries are checked: 16, and the second pass begins.
@@ -146,10 +133,10 @@ pub fn first_pass(k: usize, out: &mut [u8]) -> Packing
 
 // A step of the second pass: writes the entry at an index, and behind the last the trailer.
 fn write_step(k: usize, at: usize, e: Entry, out: &mut [u8]) -> Packing
-    requires { ⌜ (at < k) × (4 * k + 8 ≤ length (now out)) ⌝ }
+    requires { ⌜ (at < k) × (distanceOf k ≤ length (now out)) ⌝ }
     ensures { λ r. ⌜ Wrote k at e (now (out .entry)) r (now (out .exit)) ⌝ }
 {
-    put_entry(out, 4 * at, e);
+    put_entry(out, ENTRY_BYTES * at, e);
     if at + 1 < k {
         return going_on(true, at + 1, e);
     }

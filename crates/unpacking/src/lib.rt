@@ -4,14 +4,17 @@
 ghost use Prim.Native.Nat.{_+_, _-_, _*_, _<_, _^_};
 ghost use mathlib.Core.Path.{_≡_};
 ghost use lib.ListN.{length};
-ghost use Rattle.model.specs.Packed.{countIn, distanceIn, readAt};
+ghost use Rattle.model.specs.Entries.{entryBytes};
+ghost use Rattle.model.specs.Reading.{countIn, distanceIn, readAt};
 ghost use Rattle.unpacking.specs.Reading.{isOpen, entriesBy, frontBy, afterIn};
 ghost use Rattle.unpacking.specs.Part.{Part};
 use entries::entry_from;
 use file::u32_at;
+use model::ENTRY_BYTES;
 use model::EntriesAnswer;
 use model::OpenAnswer;
 use model::ReadAnswer;
+use model::TRAILER_BYTES;
 
 // The position n bytes before the end; the start where there are fewer.
 fn from_end(file: &[u8], n: usize) -> usize
@@ -27,7 +30,7 @@ fn from_end(file: &[u8], n: usize) -> usize
 pub fn count_in(file: &[u8]) -> u32
     ensures { λ r. ⌜ r ≡ countIn (now (file .entry)) ⌝ }
 {
-    u32_at(file, from_end(file, 8))
+    u32_at(file, from_end(file, TRAILER_BYTES))
 }
 
 pub fn distance_in(file: &[u8]) -> usize
@@ -66,7 +69,7 @@ pub fn entry_at(file: &[u8], i: u32, answer: OpenAnswer) -> ReadAnswer
     if count_in(file) <= i {
         return ReadAnswer::End;
     }
-    let at = first_in(file) + 4 * (i as usize);
+    let at = first_in(file) + ENTRY_BYTES * (i as usize);
     ReadAnswer::Next(entry_from(file, at))
 }
 
@@ -103,7 +106,7 @@ pub struct Plan {
 
 // Of k entries that begin at a position: those from an index on, as many as there is room for.
 pub fn part(k: usize, first: usize, from: usize, room: usize) -> Plan
-    requires { ⌜ first + 4 * k < 2 ^ 64 ⌝ }
+    requires { ⌜ first + entryBytes * k < 2 ^ 64 ⌝ }
     ensures { λ r. ⌜ Part k first from room r ⌝ }
 {
     if k <= from {
@@ -113,7 +116,7 @@ pub fn part(k: usize, first: usize, from: usize, room: usize) -> Plan
             answer: EntriesAnswer::Read { count: 0 },
         };
     }
-    let at = first + 4 * from;
+    let at = first + ENTRY_BYTES * from;
     let count = k - from;
     if room < count {
         return Plan {

@@ -1,7 +1,7 @@
 -- `entries::entry_from` meets its contract: from the four bytes, or zeros past the end.
 use borrow.Author.Needs.{needs}
-use Rattle.model.specs.Packed.{entryAt}
-use Rattle.entries.proofs.Entries.{entry-past}
+use Rattle.model.specs.Entries.{entryAt}
+use Rattle.entries.proofs.OneEntry.{entry-past}
 use Rattle.entries.proofs.entry_from.Statement.{statement}
 use Rattle.entries.proofs.entry_from.Tie as tie
 

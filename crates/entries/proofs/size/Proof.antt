@@ -2,6 +2,7 @@
 use mathlib.Core.Path.{ap, _∙_}
 use native.Mathlib.Omega.{arith}
 use borrow.Author.Needs.{needs}
+use Rattle.columns.specs.Bound.{columnBound}
 use Rattle.columns.specs.Set.{memberCount}
 use Rattle.columns.proofs.Membership.{size-own}
 use Rattle.entries.proofs.size.Statement.{statement}
@@ -14,7 +15,8 @@ size-requires : tie.Need-size-requires
 size-requires c κs = search needs
 
 returns : tie.Need-returns
-returns c = c .size .ensures ∙ ap memberCount (c .before .wide16 .ensures) ∙ size-own 16 _ (omega arith) (search needs)
+returns c = c .size .ensures ∙ ap memberCount (c .before .wide16 .ensures)
+    ∙ size-own columnBound _ (omega arith) (search needs)
 
 pub size-spec : {M : Type 1} → statement M
 size-spec = tie.close (tie.spec wide16-requires size-requires returns)

@@ -44,7 +44,7 @@ use denote.Triple.Table.{entered, cited}
 use denote.Triple.Walked.{says, Stays, stay-none-slice, stay-none, gave-slice, walkOf, goes-none-slice, goes-none}
 use denote.Triple.Walked.{goes-gave-slice, AllGo, Walks, ends-at, walked, walk-meets}
 use denote.Exit.{yes}
-use Rattle.model.specs.Packed.{readMeaning, runRead}
+use Rattle.model.specs.Reading.{readMeaning, runRead}
 use Rattle.model.specs.Reply.{entriesReply}
 use Rattle.model.specs.declared.Entry.{Entry}
 use Rattle.model.specs.declared.EntriesAnswer.{EntriesAnswer}

@@ -24,10 +24,14 @@ add-if2 : tie.Need-add-if2
 add-if2 c = search needs
 
 returns-2 : tie.Need-returns-2
-returns-2 c = wrong-distance _ (omega arith) (c .before .distance-in .ensures) (c .before .before .count-in .ensures) (λ z. omega arith)
+returns-2 c =
+    wrong-distance _ (omega arith) (c .before .distance-in .ensures) (c .before .before .count-in .ensures)
+    (λ z. omega arith)
 
 returns-3 : tie.Need-returns-3
-returns-3 c = too-far _ (omega arith) (c .before .before .distance-in .ensures) (c .before .before .before .count-in .ensures) (omega arith) (omega arith)
+returns-3 c =
+    too-far _ (omega arith) (c .before .before .distance-in .ensures) (c .before .before .before .count-in .ensures)
+    (omega arith) (omega arith)
 
 sub-first : tie.Need-sub-first
 sub-first c = search needs
@@ -36,11 +40,15 @@ entries-ok-requires : tie.Need-entries-ok-requires
 entries-ok-requires c κs = search needs
 
 returns-4 : tie.Need-returns-4
-returns-4 c = bad-list _ (c .before .entries-ok .result) (omega arith) (c .before .before .before .before .distance-in .ensures) (c .before .before .before .before .before .count-in .ensures) (omega arith) (omega arith)
+returns-4 c =
+    bad-list _ (c .before .entries-ok .result) (omega arith) (c .before .before .before .before .distance-in .ensures)
+    (c .before .before .before .before .before .count-in .ensures) (omega arith) (omega arith)
     (c .before .entries-ok .ensures) (c .if4 .taken)
 
 returns-5 : tie.Need-returns-5
-returns-5 c = good-list _ (c .before .entries-ok .result) (omega arith) (c .before .before .before .before .distance-in .ensures) (c .before .before .before .before .before .count-in .ensures) (omega arith) (omega arith)
+returns-5 c =
+    good-list _ (c .before .entries-ok .result) (omega arith) (c .before .before .before .before .distance-in .ensures)
+    (c .before .before .before .before .before .count-in .ensures) (omega arith) (omega arith)
     (c .before .entries-ok .ensures) (c .if4 .left)
 
 pub open-spec : {M : Type 1} → statement M

@@ -40,7 +40,7 @@ use denote.Triple.Table.{entered, cited}
 use denote.Triple.Walked.{says, Stays, stay-none-slice, walkOf, goes-none-slice, Walks, ends-at, walked, walk-meets}
 use denote.Exit.{yes}
 use denote.Triple.Clauses.{ensured, lasts}
-use Rattle.model.specs.Packed.{openMeaning}
+use Rattle.model.specs.Reading.{openMeaning}
 use Rattle.model.specs.Reply.{openReply}
 use Rattle.model.specs.declared.OpenAnswer.{OpenAnswer}
 use Rattle.model.proofs.OpenAnswer as O

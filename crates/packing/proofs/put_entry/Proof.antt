@@ -1,7 +1,10 @@
--- `packing::put_entry` meets its contract: four stores.
+-- `packing::put_entry` meets its contract: two stores, and a number.
 use native.Mathlib.Omega.{arith}
-use lib.ListN.{length-set}
+use mathlib.Core.Path.{ap, _∙_}
+use lib.ListN.{length, length-set}
+use lib.Seq.{length-sets}
 use borrow.Author.Needs.{needs}
+use Rattle.model.specs.Entries.{bytesOf}
 use Rattle.packing.proofs.Writes.{stores-entry}
 use Rattle.packing.proofs.put_entry.Statement.{statement}
 use Rattle.packing.proofs.put_entry.Tie as tie
@@ -18,29 +21,20 @@ add-out c = search needs
 slice-write-out-2 : tie.Need-slice-write-out-2
 slice-write-out-2 c = simp length-set (omega arith)
 
-low-requires : tie.Need-low-requires
-low-requires c κs = search needs
+add-put-u16 : tie.Need-add-put-u16
+add-put-u16 c = search needs
 
-add-out-2 : tie.Need-add-out-2
-add-out-2 c = search needs
-
-slice-write-out-3 : tie.Need-slice-write-out-3
-slice-write-out-3 c = simp length-set (omega arith)
-
-low-requires-2 : tie.Need-low-requires-2
-low-requires-2 c κs = search needs
-
-add-out-3 : tie.Need-add-out-3
-add-out-3 c = search needs
-
-slice-write-out-4 : tie.Need-slice-write-out-4
-slice-write-out-4 c = simp length-set (omega arith)
+put-u16-requires : tie.Need-put-u16-requires
+put-u16-requires c κs = simp length-set (omega arith)
 
 same-length : tie.Need-same-length
-same-length c = search needs
+same-length c =
+    let a = c .before .before .before .before .before .before .args in
+    ap length (c .before .before .put-u16 .ensures ∙ stores-entry (a .out .now) (a .at) (a .e))
+    ∙ length-sets (a .out .now) (a .at) (bytesOf (a .e))
 
 returns : tie.Need-returns
-returns c = stores-entry _ _ _ (c .before .low .ensures) (c .low2 .ensures)
+returns c = c .before .before .put-u16 .ensures ∙ stores-entry _ _ _
 
 pub put-entry-spec : {M : Type 1} → statement M
 put-entry-spec =
@@ -50,11 +44,7 @@ put-entry-spec =
     slice-write-out
     add-out
     slice-write-out-2
-    low-requires
-    add-out-2
-    slice-write-out-3
-    low-requires-2
-    add-out-3
-    slice-write-out-4
+    add-put-u16
+    put-u16-requires
     same-length
     returns)

@@ -1,6 +1,6 @@
 -- `unpacking::count_in` meets its contract.
 use borrow.Author.Needs.{needs}
-use Rattle.model.specs.Packed.{countIn}
+use Rattle.model.specs.Reading.{countIn}
 use Rattle.unpacking.proofs.count_in.Statement.{statement}
 use Rattle.unpacking.proofs.count_in.Tie as tie
 

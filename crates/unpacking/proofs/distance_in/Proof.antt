@@ -1,6 +1,6 @@
 -- `unpacking::distance_in` meets its contract.
 use borrow.Author.Needs.{needs}
-use Rattle.model.specs.Packed.{distanceIn}
+use Rattle.model.specs.Reading.{distanceIn}
 use Rattle.unpacking.proofs.distance_in.Statement.{statement}
 use Rattle.unpacking.proofs.distance_in.Tie as tie
 

@@ -56,7 +56,7 @@ use denote.Triple.Walked.{says, Stays, stay-none-slice, stay-none, stay-slice, w
 use denote.Triple.Walked.{goes-slice, AllGo, Walks, ends-at, walked, walk-meets}
 use denote.Exit.{yes}
 use Rattle.model.specs.Entry.{entry}
-use Rattle.model.specs.Packed.{entryAt}
+use Rattle.model.specs.Entries.{entryAt}
 use Rattle.model.specs.declared.Entry.{Entry}
 use Rattle.model.specs.declared.EntriesAnswer.{EntriesAnswer}
 use Rattle.model.proofs.Entry as R

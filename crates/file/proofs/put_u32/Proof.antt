@@ -1,10 +1,10 @@
--- `packing::put_u32` meets its contract: four stores.
+-- `file::put_u32` meets its contract: four stores.
 use native.Mathlib.Omega.{arith}
 use lib.ListN.{length-set}
 use borrow.Author.Needs.{needs}
-use Rattle.packing.proofs.Writes.{stores-word}
-use Rattle.packing.proofs.put_u32.Statement.{statement}
-use Rattle.packing.proofs.put_u32.Tie as tie
+use Rattle.file.proofs.Stores.{stores-four}
+use Rattle.file.proofs.put_u32.Statement.{statement}
+use Rattle.file.proofs.put_u32.Tie as tie
 
 low-requires : tie.Need-low-requires
 low-requires c κs = search needs
@@ -43,7 +43,7 @@ same-length : tie.Need-same-length
 same-length c = search needs
 
 returns : tie.Need-returns
-returns c = stores-word _ _ _ (c .before .before .before .low .ensures) (c .before .before .low2 .ensures) (c .before .low3 .ensures) (c .low4 .ensures)
+returns c = stores-four _ _ _ (c .before .before .before .low .ensures) (c .before .before .low2 .ensures) (c .before .low3 .ensures) (c .low4 .ensures)
 
 pub put-u32-spec : {M : Type 1} → statement M
 put-u32-spec =

@@ -1,15 +1,15 @@
--- Numbers of 2 and 4 bytes: what is written is read back, wherever it stands; what is read, written, is the bytes that stand there.
+-- Numbers of 2 and 4 bytes: what is written is read back, wherever it stands; what is read, written, is the bytes that
+-- stand there.
 use Prim.Native.Nat.{ℕ, zero, suc, _+_, _*_, _/_, _%_, _≤_, _<_}
 use mathlib.Core.Path.{_≡_, refl, sym, ap, _∙_}
 use mathlib.Core.List.{List, [], _∷_, _++_}
 use native.Mathlib.Nat.{add-assoc, div-div-eq-div-mul, div-add-mod', mod-eq-of-lt}
-use native.Mathlib.Numerals.{add-one, towards-suc}
+use native.Mathlib.Numerals.{towards-suc}
 use native.Mathlib.Omega.{arith}
-use lib.ListN.{length, getD, drop}
+use lib.ListN.{length, drop}
 use lib.Arith.{digits-div, digits-mod}
-use lib.Seq.{getD-append-add, drop-cons}
-use Rattle.model.specs.Bytes.{byteAt, u16At, u32At, bytes2, bytes4}
-use Rattle.entries.specs.Small.{Bytes}
+use lib.Seq.{getD-append-add}
+use Rattle.model.specs.Bytes.{byteAt, u16At, u32At, bytes2, bytes4, Bytes}
 
 -- a number behind a front is the number without it
 pub byte-after : (xs ys : List ℕ) (i : ℕ) → byteAt (xs ++ ys) (length xs + i) ≡ byteAt ys i
@@ -99,3 +99,7 @@ drop-four (x ∷ y ∷ z ∷ []) i h = absurd (omega arith)
 drop-four (x ∷ y ∷ z ∷ w ∷ xs) zero h = refl
 drop-four (x ∷ y ∷ z ∷ w ∷ xs) (suc i) h =
     let r = drop-four (y ∷ z ∷ w ∷ xs) i (omega arith) in simp towards-suc (simp towards-suc at r)
+
+-- the bytes from i on are those of the number read there, and the rest
+pub u32-forth : (b : List ℕ) (i : ℕ) → Bytes b → i + 4 ≤ length b → bytes4 (u32At b i) ++ drop (i + 4) b ≡ drop i b
+u32-forth b i s h = rw (bytes4-of-u32 b i s) (sym (drop-four b i h))
