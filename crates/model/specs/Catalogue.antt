@@ -8,54 +8,54 @@ use Rattle.model.specs.Bytes.{u16At, u32At}
 
 -- the trailer ends the file: an offset for each table, the number of tables, the offset of the trailer's first byte
 unfoldable pub tables : List ℕ → ℕ
-tables b = u16At b (length b - 6)
+tables cat = u16At cat (length cat - 6)
 
 unfoldable pub trailer : List ℕ → ℕ
-trailer b = u32At b (length b - 4)
+trailer cat = u32At cat (length cat - 4)
 
 unfoldable pub tableAt : List ℕ → ℕ → ℕ
-tableAt b i = u32At b (trailer b + 4 * i)
+tableAt cat table = u32At cat (trailer cat + 4 * table)
 
 -- a table: columns, parent table, rows, and then its rows
 unfoldable pub columns : List ℕ → ℕ → ℕ
-columns b i = u16At b (tableAt b i)
+columns cat table = u16At cat (tableAt cat table)
 
 unfoldable pub parent : List ℕ → ℕ → ℕ
-parent b i = u16At b (tableAt b i + 2)
+parent cat table = u16At cat (tableAt cat table + 2)
 
 unfoldable pub rows : List ℕ → ℕ → ℕ
-rows b i = u16At b (tableAt b i + 4)
+rows cat table = u16At cat (tableAt cat table + 4)
 
 -- a row: its parent row and a code for each column
 unfoldable pub rowAt : List ℕ → ℕ → ℕ → ℕ
-rowAt b i k = tableAt b i + 6 + k * (2 + 4 * columns b i)
+rowAt cat table k = tableAt cat table + 6 + k * (2 + 4 * columns cat table)
 
 unfoldable pub parentRow : List ℕ → ℕ → ℕ → ℕ
-parentRow b i k = u16At b (rowAt b i k)
+parentRow cat table k = u16At cat (rowAt cat table k)
 
 unfoldable pub cell : List ℕ → ℕ → ℕ → ℕ → ℕ
-cell b i k c = u32At b (rowAt b i k + 2 + 4 * c)
+cell cat table k c = u32At cat (rowAt cat table k + 2 + 4 * c)
 
 -- the first byte after a table's rows
 unfoldable pub tableEnd : List ℕ → ℕ → ℕ
-tableEnd b i = rowAt b i (rows b i)
+tableEnd cat table = rowAt cat table (rows cat table)
 
 -- the visible columns of a table are its ancestors', root first, and then its own: how many, climbing n tables at most
 unfoldable pub visibleIn : List ℕ → ℕ → ℕ → ℕ
-visibleIn b zero i = 0
-visibleIn b (suc n) i = columns b i + ifEq i 0 0 (visibleIn b n (parent b i))
+visibleIn cat zero table = 0
+visibleIn cat (suc n) table = columns cat table + ifEq table 0 0 (visibleIn cat n (parent cat table))
 
 unfoldable pub visible : List ℕ → ℕ → ℕ
-visible b i = visibleIn b tableBound i
+visible cat table = visibleIn cat tableBound table
 
 -- how many of them the ancestors have, which is the visible number of the first own column
 unfoldable pub inherited : List ℕ → ℕ → ℕ
-inherited b i = visible b i - columns b i
+inherited cat table = visible cat table - columns cat table
 
--- the sets over the targets i, i + 1 and on, n in all, and over all targets
+-- the sets over n targets from a table on, and over all targets
 unfoldable pub setsFrom : List ℕ → ℕ → ℕ → ℕ
-setsFrom b zero i = 0
-setsFrom b (suc n) i = 2 ^ visible b i + setsFrom b n (suc i)
+setsFrom cat zero table = 0
+setsFrom cat (suc n) table = 2 ^ visible cat table + setsFrom cat n (suc table)
 
 unfoldable pub sets : List ℕ → ℕ
-sets b = setsFrom b (tables b) 0
+sets cat = setsFrom cat (tables cat) 0

@@ -13,69 +13,69 @@ use Rattle.model.specs.Catalogue.{tables, trailer, tableAt, columns, par
 
 -- 1: the file is shorter than the smallest one
 unfoldable pub sizeCode : List ℕ → ℕ
-sizeCode b = ifLt (length b) smallestFile (number FileTooShort) 0
+sizeCode cat = ifLt (length cat) smallestFile (number FileTooShort) 0
 
 -- 2: no table or too many, or the trailer does not end the file
 unfoldable pub trailerCode : List ℕ → ℕ
-trailerCode b =
-    ifEq (tables b) 0 (number BadTrailer)
-    (ifLt tableBound (tables b) (number BadTrailer)
-    (ifEq (trailer b + 4 * tables b + 6) (length b) 0 (number BadTrailer)))
+trailerCode cat =
+    ifEq (tables cat) 0 (number BadTrailer)
+    (ifLt tableBound (tables cat) (number BadTrailer)
+    (ifEq (trailer cat + 4 * tables cat + 6) (length cat) 0 (number BadTrailer)))
 
--- where table i must start: at 0, or at the end of the one before
+-- where a table must start: at 0, or at the end of the one before
 unfoldable pub startOf : List ℕ → ℕ → ℕ
-startOf b zero = 0
-startOf b (suc i) = tableEnd b i
+startOf cat zero = 0
+startOf cat (suc table) = tableEnd cat table
 
 -- 3: the table's offset is not there, or its first 6 bytes pass the trailer's first byte
 unfoldable pub headCode : List ℕ → ℕ → ℕ
-headCode b i = ifEq (tableAt b i) (startOf b i) (ifLe (tableAt b i + 6) (trailer b) 0 (number BadExtent)) (number BadExtent)
+headCode cat table = ifEq (tableAt cat table) (startOf cat table) (ifLe (tableAt cat table + 6) (trailer cat) 0 (number BadExtent)) (number BadExtent)
 
 -- 4: too many columns or rows
 unfoldable pub boundCode : List ℕ → ℕ → ℕ
-boundCode b i =
-    ifLt columnBound (columns b i) (number TableTooLarge) (ifLt rowBound (rows b i) (number TableTooLarge) 0)
+boundCode cat table =
+    ifLt columnBound (columns cat table) (number TableTooLarge) (ifLt rowBound (rows cat table) (number TableTooLarge) 0)
 
 -- 5: the root has a parent table, or another's is not a lower-numbered one
 unfoldable pub parentCode : List ℕ → ℕ → ℕ
-parentCode b i =
-    ifEq i 0 (ifEq (parent b i) noParent 0 (number BadParentTable)) (ifLt (parent b i) i 0 (number BadParentTable))
+parentCode cat table =
+    ifEq table 0 (ifEq (parent cat table) noParent 0 (number BadParentTable)) (ifLt (parent cat table) table 0 (number BadParentTable))
 
 -- 6: too many visible columns
 unfoldable pub widthCode : List ℕ → ℕ → ℕ
-widthCode b i = ifLt columnBound (visible b i) (number TooManyVisible) 0
+widthCode cat table = ifLt columnBound (visible cat table) (number TooManyVisible) 0
 
 -- 3: the rows pass the trailer's first byte
 unfoldable pub extentCode : List ℕ → ℕ → ℕ
-extentCode b i = ifLe (tableEnd b i) (trailer b) 0 (number BadExtent)
+extentCode cat table = ifLe (tableEnd cat table) (trailer cat) 0 (number BadExtent)
 
 -- 7: a root row has a parent row, or another's is not below the parent table's rows
 unfoldable pub rowCode : List ℕ → ℕ → ℕ → ℕ
-rowCode b i k =
-    ifEq i 0 (ifEq (parentRow b i k) noParent 0 (number BadParentRow))
-    (ifLt (parentRow b i k) (rows b (parent b i)) 0 (number BadParentRow))
+rowCode cat table k =
+    ifEq table 0 (ifEq (parentRow cat table k) noParent 0 (number BadParentRow))
+    (ifLt (parentRow cat table k) (rows cat (parent cat table)) 0 (number BadParentRow))
 
 -- one table: offset and 6 bytes, then 4, 5, 6, the rows' extent, and each row
 unfoldable pub tableCode : List ℕ → ℕ → ℕ
-tableCode b i =
-    orElse (headCode b i)
-    (orElse (boundCode b i)
-    (orElse (parentCode b i)
-    (orElse (widthCode b i) (orElse (extentCode b i) (firstOf (rows b i) 0 (rowCode b i))))))
+tableCode cat table =
+    orElse (headCode cat table)
+    (orElse (boundCode cat table)
+    (orElse (parentCode cat table)
+    (orElse (widthCode cat table) (orElse (extentCode cat table) (firstOf (rows cat table) 0 (rowCode cat table))))))
 
 -- 3: bytes are left after the last table
 unfoldable pub leftCode : List ℕ → ℕ
-leftCode b = ifEq (tableEnd b (tables b - 1)) (trailer b) 0 (number BadExtent)
+leftCode cat = ifEq (tableEnd cat (tables cat - 1)) (trailer cat) 0 (number BadExtent)
 
 -- the first ground against the catalogue: 1 and 2, then table by table, then left bytes
 unfoldable pub checkCode : List ℕ → ℕ
-checkCode b =
-    orElse (sizeCode b) (orElse (trailerCode b) (orElse (firstOf (tables b) 0 (tableCode b)) (leftCode b)))
+checkCode cat =
+    orElse (sizeCode cat) (orElse (trailerCode cat) (orElse (firstOf (tables cat) 0 (tableCode cat)) (leftCode cat)))
 
 -- the bytes are an accepted catalogue
 abbrev pub Accepted : List ℕ → Type 0
-Accepted b = checkCode b ≡ 0
+Accepted cat = checkCode cat ≡ 0
 
 -- what checking the bytes replies
 unfoldable pub checkMeaning : List ℕ → Reply
-checkMeaning b = replyOf (checkCode b) (tables b ∷ sets b ∷ [])
+checkMeaning cat = replyOf (checkCode cat) (tables cat ∷ sets cat ∷ [])

@@ -71,10 +71,10 @@ refusedLine number = refusedWord ++ (decimal number ++ lineFeed)
 
 -- the whole listing of a catalogue: the head line and a line for each entry of the full listing
 unfoldable pub listingText : List ℕ → List ℕ
-listingText b =
-    headLine (tables b) (sets b) (length (flat (cells (ordinary b)))) ++ linesOf (flat (cells (ordinary b)))
+listingText cat =
+    headLine (tables cat) (sets cat) (length (flat (cells (ordinary cat)))) ++ linesOf (flat (cells (ordinary cat)))
 
 -- what is printed for the bytes of standard input
 unfoldable pub answerText : List ℕ → List ℕ
-answerText b =
-    ifLt fileBound (length b) tooLong (ifEq (checkCode b) 0 (listingText b) (refusedLine (checkCode b)))
+answerText cat =
+    ifLt fileBound (length cat) tooLong (ifEq (checkCode cat) 0 (listingText cat) (refusedLine (checkCode cat)))
