@@ -1,4 +1,4 @@
--- Answering a block: right by right, the rights of each pair become those that are listed for its left side.
+-- Answering a block: right by right, the rights of each pair become those that are minimal for its left side.
 use Prim.Native.Nat.{ℕ, suc, _+_, _^_, _≤_, _<_}
 use mathlib.Core.Path.{_≡_, refl, sym, ap, ap₂, subst, _∙_}
 use mathlib.Core.Logic.{_↔_}
@@ -15,27 +15,27 @@ use Rattle.columns.specs.Test.{pick}
 use Rattle.model.specs.View.{View, minimal}
 use Rattle.table.specs.Words.{word}
 use Rattle.model.specs.Rights.{rightAt}
-use Rattle.planes.specs.Bits.{Filled, Narrow}
+use Rattle.planes.specs.Bits.{PlaneFrom, Narrow}
 use Rattle.planes.specs.Plane.{Sown}
 use Rattle.planes.proofs.Plane.{seeds-filled-plane, narrow-is}
 use Rattle.planes.proofs.Seeds.{sown-kept}
-use Rattle.blocks.specs.Cache.{pairsAt, leftAt, listed, Room, Lefts, AddedBelow, PairsBelow}
+use Rattle.blocks.specs.Cache.{pairsAt, leftAt, askedMinimal, Room, Lefts, AddedBelow, PairsBelow}
 use Rattle.blocks.specs.Cache.{Answered, Block}
 use Rattle.blocks.proofs.Pairs.{added-le}
 
--- a right asked for is listed exactly if its plane shows it
-test-listed : (v : View) (n own a x : ℕ) (seeds plane : List ℕ) (t : Bool) → Sown v n seeds → n ≤ columnBound → a ≤ n
-    → x < 2 ^ n → bit own a ≡ 1 → Filled n a seeds plane → (t ≡ true) ↔ Narrow plane x a → t ≡ listed v own x a
-test-listed v n own a x seeds plane t s b h l asked fill f =
+-- a right asked for is minimal exactly if its plane shows it
+test-minimal : (v : View) (n own a x : ℕ) (seeds plane : List ℕ) (t : Bool) → Sown v n seeds → n ≤ columnBound → a ≤ n
+    → x < 2 ^ n → bit own a ≡ 1 → PlaneFrom n a seeds plane → (t ≡ true) ↔ Narrow plane x a → t ≡ askedMinimal v own x a
+test-minimal v n own a x seeds plane t s b h l asked fill f =
     let m = s .members in
-    let full : Filled (v .members) a seeds plane = subst (λ (k : ℕ). Filled k a seeds plane) (sym m) fill in
+    let full : PlaneFrom (v .members) a seeds plane = subst (λ (k : ℕ). PlaneFrom k a seeds plane) (sym m) fill in
     let inside : x < 2 ^ v .members = subst (λ (k : ℕ). x < 2 ^ k) (sym m) l in
     let is = seeds-filled-plane v a seeds plane (s .equivalence) (omega arith) (omega arith) (s .seeds) full in
     narrow-is v plane x a t (omega arith) is inside (omega arith) f
     ∙ ap (λ (b : Bool). b && minimal v x (rightAt (v .members) a)) (sym (eq-eqb (bit own a) 1 asked))
 
-none-listed : (v : View) (own a x : ℕ) → bit own a ≡ 0 → false ≡ listed v own x a
-none-listed v own a x e =
+not-asked : (v : View) (own a x : ℕ) → bit own a ≡ 0 → false ≡ askedMinimal v own x a
+not-asked v own a x e =
     ap (λ (b : Bool). b && minimal v x (rightAt (v .members) a)) (sym (ne-eqb (bit own a) 1 (λ i. omega arith)))
 
 -- right a is not asked for, or its plane is filled and it is added
@@ -47,15 +47,15 @@ answered-none n own a count ws e p =
       lefts = λ j. refl;
       below = λ j l. omega (arith, p .rights j l, two-pow-succ a);
       rights = λ v s j l.
-          nothing (word ws (suc (leftAt n j))) (listed v own (word ws (leftAt n j)) a)
-          (none-listed v own a (word ws (leftAt n j)) e);
+          nothing (word ws (suc (leftAt n j))) (askedMinimal v own (word ws (leftAt n j)) a)
+          (not-asked v own a (word ws (leftAt n j)) e);
     }
   where
     nothing : (w : ℕ) (t : Bool) → false ≡ t → w ≡ w + pick t (2 ^ a) 0
     nothing w t i = subst (λ (b : Bool). w ≡ w + pick b (2 ^ a) 0) i (omega arith)
 
 pub answered-some : (n own a count : ℕ) (plane before after : List ℕ) → n ≤ columnBound → a ≤ n → bit own a ≡ 1
-    → PairsBelow n a count before → Filled n a before plane → AddedBelow n a count plane before after
+    → PairsBelow n a count before → PlaneFrom n a before plane → AddedBelow n a count plane before after
     → Answered n own a count before after
 answered-some n own a count plane before after b h asked p fill d =
     record {
@@ -73,7 +73,7 @@ answered-some n own a count plane before after b h asked p fill d =
       rights = λ v s j l.
           let f = d .rights j l in
           let x = word before (leftAt n j) in
-          let t = test-listed v n own a x before plane (f .1 .test) s b h (p .lefts j l) asked fill (f .1 .narrow) in
+          let t = test-minimal v n own a x before plane (f .1 .test) s b h (p .lefts j l) asked fill (f .1 .narrow) in
           f .2
           ∙ ap (λ (r : ℕ). word before (suc (leftAt n j)) + r)
           (f .1 .value ∙ ap (λ (t : Bool). pick t (2 ^ a) 0) t);
@@ -86,7 +86,7 @@ pub record AnsweredBelow (n own a count : ℕ) (before after : List ℕ) : Type 
   pub lefts : (j : ℕ) → word after (leftAt n j) ≡ word before (leftAt n j)
   pub below : (j : ℕ) → j < count → word after (suc (leftAt n j)) < 2 ^ a
   pub rights : (v : View) → Sown v n before → (j : ℕ) → j < count
-      → word after (suc (leftAt n j)) ≡ setBelow a (listed v own (word before (leftAt n j)))
+      → word after (suc (leftAt n j)) ≡ setBelow a (askedMinimal v own (word before (leftAt n j)))
 
 pub answering-begun : (n own first count : ℕ) (before ws : List ℕ) → Lefts n first count before ws
     → AnsweredBelow n own 0 count ws ws
@@ -124,8 +124,8 @@ answering-more n own a count before mid after h len b d =
       rights = λ v s j l.
           let t = d .rights v (sown-kept v n before mid h (λ i k. b .kept i (omega arith)) s) j l in
           t
-          ∙ ap₂ (λ (w x : ℕ). w + pick (listed v own x a) (2 ^ a) 0) (b .rights v s j l) (b .lefts j)
-          ∙ one-more (listed v own (word before (leftAt n j))) a;
+          ∙ ap₂ (λ (w x : ℕ). w + pick (askedMinimal v own x a) (2 ^ a) 0) (b .rights v s j l) (b .lefts j)
+          ∙ one-more (askedMinimal v own (word before (leftAt n j))) a;
     }
 
 pub block-done : (n own first a count : ℕ) (start before after : List ℕ) → 5 ≤ n → a ≡ suc n
@@ -144,6 +144,6 @@ block-done n own first a count start before after h e l b =
             left = subst (λ (z : ℕ). word after (leftAt n j) < 2 ^ z) (sym m) (omega (arith, b .lefts j, l .lefts j k));
             rights =
                 b .rights v sown j k
-                ∙ ap₂ (λ (c y : ℕ). setBelow c (listed v own y)) (e ∙ ap suc (sym m)) (sym (b .lefts j));
+                ∙ ap₂ (λ (c y : ℕ). setBelow c (askedMinimal v own y)) (e ∙ ap suc (sym m)) (sym (b .lefts j));
           };
     }

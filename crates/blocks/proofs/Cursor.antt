@@ -1,4 +1,4 @@
--- The rights of a left side from the cursor's pair, or from a new block: they are the listed ones, and the words stay
+-- The rights of a left side from the cursor's pair, or from a new block: they are the minimal ones, and the words stay
 -- ready.
 use Prim.Native.Nat.{ℕ, suc, _+_, _*_, _^_, _≤_, _<_}
 use mathlib.Core.Path.{_≡_, sym, ap, subst, _∙_}

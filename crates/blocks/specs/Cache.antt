@@ -1,5 +1,5 @@
 -- The cache behind the seeds: a word for the cursor, a word for how many pairs stand there, and the pairs, each a left
--- side and its listed rights. What the functions that write and read it promise.
+-- side and its minimal rights. What the functions that write and read it promise.
 use Prim.Native.Nat.{ℕ, suc, _+_, _*_, _^_, _≤_, _<_}
 use mathlib.Core.Path.{_≡_}
 use mathlib.Core.Logic.{_↔_}
@@ -27,7 +27,7 @@ pub record Roomy (n : ℕ) (ws : List ℕ) : Type 0 where
   pub one : pairsAt n + 2 ≤ length ws
   pub count : leftAt n (word ws (seedWords n + 1)) ≤ length ws
 
--- pairs of words from a place on: a left side, and behind it its listed rights
+-- pairs of words from a place on: a left side, and behind it its minimal rights
 pub record CachedPair (v : View) (own : ℕ) (ws : List ℕ) (at : ℕ) : Type 0 where
   pub left : word ws at < 2 ^ v .members
   pub rights : word ws (suc at) ≡ minimalMask v own (word ws at)
@@ -41,8 +41,8 @@ pub record Stocked (v : View) (n own : ℕ) (ws : List ℕ) : Type 0 where
   pub cached : Cached v own ws (pairsAt n) (word ws (seedWords n + 1))
 
 -- right a is asked for and minimal for x
-abbrev pub listed : View → ℕ → ℕ → ℕ → Bool
-listed v own x a = isIn a own && minimal v x (rightAt (v .members) a)
+abbrev pub askedMinimal : View → ℕ → ℕ → ℕ → Bool
+askedMinimal v own x a = isIn a own && minimal v x (rightAt (v .members) a)
 
 -- how many pairs a block has: at least one, no more than there are left sides, and they are inside
 pub record Room (n length count : ℕ) : Type 0 where
@@ -78,14 +78,14 @@ pub record PairsBelow (n a count : ℕ) (ws : List ℕ) : Type 0 where
   pub lefts : (j : ℕ) → j < count → word ws (leftAt n j) < 2 ^ n
   pub rights : (j : ℕ) → j < count → word ws (suc (leftAt n j)) < 2 ^ a
 
--- right a is answered: added to each pair whose left side has it listed
+-- right a is answered: added to each pair for whose left side it is minimal
 pub record Answered (n own a count : ℕ) (before after : List ℕ) : Type 0 where
   pub kept : (i : ℕ) → i < pairsAt n → word after i ≡ word before i
   pub lefts : (j : ℕ) → word after (leftAt n j) ≡ word before (leftAt n j)
   pub below : (j : ℕ) → j < count → word after (suc (leftAt n j)) < 2 ^ suc a
   pub rights : (v : View) → Sown v n before → (j : ℕ) → j < count
       → word after (suc (leftAt n j))
-      ≡ word before (suc (leftAt n j)) + pick (listed v own (word before (leftAt n j)) a) (2 ^ a) 0
+      ≡ word before (suc (leftAt n j)) + pick (askedMinimal v own (word before (leftAt n j)) a) (2 ^ a) 0
 
 -- a block of left sides from the first on is answered
 pub record Block (n own first count : ℕ) (before after : List ℕ) : Type 0 where

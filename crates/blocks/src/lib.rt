@@ -1,5 +1,5 @@
 // Not for callers: blocks of left sides, for calls that are lent less than one word for each left side. Behind the seeds the
-// words hold the next left sides in listing order, each with its listed rights, and a cursor to the one that is asked for next. Promised are the rights
+// words hold the next left sides in listing order, each with its minimal rights, and a cursor to the one that is asked for next. Promised are the rights
 // of each left side that stands there: other left sides, or a cursor that misses, would only cost time.
 // Relies on the definitions of `model` and `columns`, and on `planes` for the plane of each right. Called by `rights`.
 ghost use Prim.Native.Nat.{_+_, _/_, _^_, _≤_, _<_};
@@ -120,7 +120,7 @@ fn at_cursor(words: &[u32], n: u32, x: u32) -> bool
     words[m + 2 + 2 * cursor as usize] == x
 }
 
-// The listed rights of x, of those asked for, as a mask: from the cursor's pair, or else from a new block.
+// The minimal rights of x, of those asked for, as a mask: from the cursor's pair, or else from a new block.
 pub fn rights_from(words: &mut [u32], n: u32, own: u32, x: u32) -> u32
     requires { ⌜ (5 ≤ n) × (n ≤ columnBound) × (x < 2 ^ n) × Roomy n (now words) ⌝ }
     ensures { λ r. ⌜ RightsFrom n own x (now (words .entry)) (now (words .exit)) r ⌝ }

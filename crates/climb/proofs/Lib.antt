@@ -1,3 +1,1 @@
-pub mod Grants
-pub mod Walk
-pub mod Climb
+pub mod Within

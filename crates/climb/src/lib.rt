@@ -1,6 +1,7 @@
-// Not for callers: the climb from a target to the root. The rows that the target's rows lead to, one step for all of them at a time, and numbers of the
-// catalogue by one load each, with no test, where the caller knows that they are within the bytes; proofs/ has the laws of agreement on the way up.
-// Relies on the definitions of `model` and on laws of `layout` and `filled`. Called by `keys`.
+// Not for callers: the climb from a target to the root. The rows that the target's rows lead to, one step for all of
+// them at a time, and numbers of the catalogue by one load each, with no test, where the caller knows that they are
+// within the bytes, as proofs/Within.antt tells.
+// Relies on `model` and `filled`. Called by `keys`.
 ghost use Prim.Native.Nat.{ℕ, _+_, _*_, _≤_, _<_};
 ghost use mathlib.Core.Path.{_≡_};
 ghost use lib.ListN.{length, getD};
@@ -57,8 +58,8 @@ pub fn parent_rows(b: &[u8], o: usize, width: usize, end: usize, reached: &mut [
     requires { ⌜ (end ≤ rowBound) × (length (now reached) ≡ rowBound) ⌝ }
     requires { ⌜ ((q : ℕ) → q < end → o + getD (now reached) q 0 * width + 2 ≤ length (now b)) ⌝ }
     ensures { λ _.
-        ⌜ Filled 0 end (λ (q : ℕ). u16At (now (b .entry)) (o + getD (now (reached .entry)) q 0 * width)) (now (reached .entry))
-        (now (reached .exit)) ⌝ }
+        ⌜ Filled 0 end (λ (q : ℕ). u16At (now (b .entry)) (o + getD (now (reached .entry)) q 0 * width))
+        (now (reached .entry)) (now (reached .exit)) ⌝ }
 {
     let mut q: usize = 0;
     while q < end {

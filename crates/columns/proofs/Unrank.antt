@@ -83,11 +83,11 @@ nth-append-right (x ∷ xs) r zero h = absurd (omega arith)
 nth-append-right (x ∷ xs) r (suc i) h =
     nth-append-right xs r i (omega arith) ∙ ap (nth r) (sym (suc-sub-suc i (length xs)))
 
-pub record Passed (n index k left : ℕ) : Type 0 where
+pub record SizesPassed (n index k left : ℕ) : Type 0 where
   pub inside : k ≤ suc n
   pub same : nth (inOrder n) index ≡ nth (bySizeFrom n (suc n - k) k) left
 
-pub passed-none : (n index : ℕ) → Passed n index 0 index
+pub passed-none : (n index : ℕ) → SizesPassed n index 0 index
 unfolding inOrder
 passed-none n index = record {
   inside = omega arith;
@@ -95,15 +95,15 @@ passed-none n index = record {
 }
 
 -- what is left of the order begins with the sets of size k
-rest : (n index k left : ℕ) → k ≤ n → Passed n index k left
+rest : (n index k left : ℕ) → k ≤ n → SizesPassed n index k left
     → nth (inOrder n) index ≡ nth (ofSize n k ++ bySizeFrom n (n - k) (suc k)) left
 unfolding bySizeFrom
 rest n index k left h p =
     let e : suc n - k ≡ suc (n - k) = omega arith in
     p .same ∙ ap (λ (m : ℕ). nth (bySizeFrom n m k) left) e
 
-pass : (n index k left : ℕ) → k ≤ n → count n k ≤ left → Passed n index k left
-    → Passed n index (suc k) (left - count n k)
+pass : (n index k left : ℕ) → k ≤ n → count n k ≤ left → SizesPassed n index k left
+    → SizesPassed n index (suc k) (left - count n k)
 pass n index k left h l p = record {
   inside = omega arith;
   same =
@@ -113,20 +113,20 @@ pass n index k left h l p = record {
       ∙ ap (λ (m : ℕ). nth (bySizeFrom n m (suc k)) (left - count n k)) (sym (suc-sub-suc n k));
 }
 
-pub passed-more : (n index k left c : ℕ) → k ≤ n → c ≡ count n k → c ≤ left → Passed n index k left
-    → Passed n index (k + 1) (left - c)
+pub passed-more : (n index k left c : ℕ) → k ≤ n → c ≡ count n k → c ≤ left → SizesPassed n index k left
+    → SizesPassed n index (k + 1) (left - c)
 passed-more n index k left c h e l p =
-    subst₂ (λ (i j : ℕ). Passed n index i (left - j)) (sym (add-one k)) (sym e)
+    subst₂ (λ (i j : ℕ). SizesPassed n index i (left - j)) (sym (add-one k)) (sym e)
     (pass n index k left h (omega arith) p)
 
-pub passed-found : (n index k left : ℕ) → k ≤ n → left < count n k → Passed n index k left
+pub passed-found : (n index k left : ℕ) → k ≤ n → left < count n k → SizesPassed n index k left
     → nth (inOrder n) index ≡ Set (setOf (getD (ofSize n k) left 0))
 passed-found n index k left h l p =
     let u : left < length (ofSize n k) = omega (arith, length-ofSize n k) in
     rest n index k left h p ∙ nth-append-left (ofSize n k) (bySizeFrom n (n - k) (suc k)) left u
     ∙ nth-getD (ofSize n k) left u
 
-pub passed-all : (n index k left : ℕ) → n < k → Passed n index k left → nth (inOrder n) index ≡ Nothing
+pub passed-all : (n index k left : ℕ) → n < k → SizesPassed n index k left → nth (inOrder n) index ≡ Nothing
 unfolding bySizeFrom nth
 passed-all n index k left h p =
     let e : suc n - k ≡ 0 = omega arith in

@@ -10,17 +10,17 @@ use Rattle.columns.proofs.Test.{is-if-eq, is-if-ne}
 use Rattle.model.specs.Bounds.{rowBound}
 use Rattle.leaders.specs.Keys.{firstSame}
 use Rattle.leaders.proofs.Numbers.{firstSame-le, firstSame-word, same-first}
-use Rattle.grouping.specs.Chains.{chains, chainOf, LeadsIn, Last, Linked, Chained, Placed}
+use Rattle.grouping.specs.Chains.{chains, chainOf, LeadsIn, LastIn, LinkedBelow, Chained, Placed}
 
 -- the walk along the chain of row q stands at c: a leader of that chain, and no leader from there on to q has the word of q
 pub record Walking (ws links : List ℕ) (q c : ℕ) : Type 0 where
-  pub linked : Linked ws q links
+  pub linked : LinkedBelow ws q links
   pub high : c ≤ q
   pub leads : 0 < c → LeadsIn ws (chainOf (getD ws q 0)) (c - 1)
   pub passed : (p : ℕ) → c ≤ p → p < q → firstSame ws p ≡ p → getD ws p 0 ≡ getD ws q 0 → ⊥
 
 module _ (ws links : List ℕ) (q c : ℕ) where
-  pub walking-begun : Linked ws q links → Last ws q (chainOf (getD ws q 0)) c → Walking ws links q c
+  pub walking-begun : LinkedBelow ws q links → LastIn ws q (chainOf (getD ws q 0)) c → Walking ws links q c
   walking-begun k l = record {
     linked = k;
     high = l .high;
@@ -29,10 +29,10 @@ module _ (ws links : List ℕ) (q c : ℕ) where
   }
 
   -- the next place is below
-  pub walking-link : Walking ws links q c → 0 < c → Last ws (c - 1) (chainOf (getD ws q 0)) (getD links (c - 1) 0)
+  pub walking-link : Walking ws links q c → 0 < c → LastIn ws (c - 1) (chainOf (getD ws q 0)) (getD links (c - 1) 0)
   walking-link w s =
       let n = w .leads s in
-      subst (λ (h : ℕ). Last ws (c - 1) h (getD links (c - 1) 0)) (n .chain)
+      subst (λ (h : ℕ). LastIn ws (c - 1) h (getD links (c - 1) 0)) (n .chain)
       (w .linked .link (c - 1) (omega (arith, w .high)) (n .leads))
 
   pub walking-more : Walking ws links q c → 0 < c → (getD ws (c - 1) 0 ≡ getD ws q 0 → ⊥) → Walking ws links q (getD links (c - 1) 0)
@@ -43,7 +43,7 @@ module _ (ws links : List ℕ) (q c : ℕ) where
     passed = λ p i j f e. at p i j f e (decLt p (c - 1)) (ℕ-discrete p (c - 1));
   }
     where
-      next : Last ws (c - 1) (chainOf (getD ws q 0)) (getD links (c - 1) 0)
+      next : LastIn ws (c - 1) (chainOf (getD ws q 0)) (getD links (c - 1) 0)
       next = walking-link w s
 
       at : (p : ℕ) → getD links (c - 1) 0 ≤ p → p < q → firstSame ws p ≡ p → getD ws p 0 ≡ getD ws q 0
@@ -71,7 +71,7 @@ pub chained-begun : (ws : List ℕ) → Chained ws 0 (replicate chains 0) (repli
 chained-begun ws = record {
   chains-long = length-replicate {A = ℕ} chains 0;
   links-long = length-replicate {A = ℕ} rowBound 0;
-  headed = λ h l. subst (Last ws 0 h) (sym (getD-replicate chains h 0 0 l)) (record {
+  headed = λ h l. subst (LastIn ws 0 h) (sym (getD-replicate chains h 0 0 l)) (record {
     high = omega arith;
     leads = λ s. absurd (omega arith);
     last = λ p i j. absurd (omega arith);
@@ -81,11 +81,11 @@ chained-begun ws = record {
 
 -- the head of the chain of a row
 pub chained-head : {ws : List ℕ} {q : ℕ} {heads links : List ℕ} → Chained ws q heads links → {h : ℕ}
-    → (h ≡ chainOf (getD ws q 0)) × (h < chains) → Last ws q (chainOf (getD ws q 0)) (getD heads h 0)
-chained-head {ws} {q} {heads} k {h} i = subst (λ (j : ℕ). Last ws q j (getD heads h 0)) (i .0) (k .headed h (i .1))
+    → (h ≡ chainOf (getD ws q 0)) × (h < chains) → LastIn ws q (chainOf (getD ws q 0)) (getD heads h 0)
+chained-head {ws} {q} {heads} k {h} i = subst (λ (j : ℕ). LastIn ws q j (getD heads h 0)) (i .0) (k .headed h (i .1))
 
 -- a chain that the next row is not put into stays
-last-same : (ws : List ℕ) (m h c : ℕ) → (LeadsIn ws h m → ⊥) → Last ws m h c → Last ws (m + 1) h c
+last-same : (ws : List ℕ) (m h c : ℕ) → (LeadsIn ws h m → ⊥) → LastIn ws m h c → LastIn ws (m + 1) h c
 last-same ws m h c other l = record {
   high = omega (arith, l .high);
   leads = l .leads;
@@ -118,26 +118,26 @@ chained-leader ws m h heads links l is leads k = record {
   linked = record { link = λ p i f. link p i f (ℕ-discrete p m) };
 }
   where
-    head : (j : ℕ) → j < chains → Dec (j ≡ h) → Last ws (m + 1) j (getD (set heads h (m + 1)) j 0)
+    head : (j : ℕ) → j < chains → Dec (j ≡ h) → LastIn ws (m + 1) j (getD (set heads h (m + 1)) j 0)
     head j i (yes e) =
-        subst (λ (i : ℕ). Last ws (m + 1) i (getD (set heads h (m + 1)) i 0)) (sym e)
-        (subst (Last ws (m + 1) h) (sym (getD-set-same heads h (m + 1) 0 (omega (arith, k .chains-long, is .1)))) (record {
+        subst (λ (i : ℕ). LastIn ws (m + 1) i (getD (set heads h (m + 1)) i 0)) (sym e)
+        (subst (LastIn ws (m + 1) h) (sym (getD-set-same heads h (m + 1) 0 (omega (arith, k .chains-long, is .1)))) (record {
           high = omega arith;
           leads = λ s. let e : m ≡ m + 1 - 1 = omega arith in subst (LeadsIn ws h) e (record { leads = leads; chain = sym (is .0) });
           last = λ p i j. absurd (omega arith);
         }))
     head j i (no d) =
-        subst (Last ws (m + 1) j) (sym (getD-set-other heads h j (m + 1) 0 d))
+        subst (LastIn ws (m + 1) j) (sym (getD-set-other heads h j (m + 1) 0 d))
         (last-same ws m j (getD heads j 0) (λ n. d (sym (n .chain) ∙ sym (is .0))) (k .headed j i))
 
     link : (p : ℕ) → p < m + 1 → firstSame ws p ≡ p → Dec (p ≡ m)
-        → Last ws p (chainOf (getD ws p 0)) (getD (set links m (getD heads h 0)) p 0)
+        → LastIn ws p (chainOf (getD ws p 0)) (getD (set links m (getD heads h 0)) p 0)
     link p i f (yes e) =
-        subst (λ (r : ℕ). Last ws r (chainOf (getD ws r 0)) (getD (set links m (getD heads h 0)) r 0)) (sym e)
-        (subst (Last ws m (chainOf (getD ws m 0))) (sym (getD-set-same links m (getD heads h 0) 0 (omega (arith, k .links-long))))
+        subst (λ (r : ℕ). LastIn ws r (chainOf (getD ws r 0)) (getD (set links m (getD heads h 0)) r 0)) (sym e)
+        (subst (LastIn ws m (chainOf (getD ws m 0))) (sym (getD-set-same links m (getD heads h 0) 0 (omega (arith, k .links-long))))
         (chained-head k is))
     link p i f (no d) =
-        subst (Last ws p (chainOf (getD ws p 0))) (sym (getD-set-other links m p (getD heads h 0) 0 d))
+        subst (LastIn ws p (chainOf (getD ws p 0))) (sym (getD-set-other links m p (getD heads h 0) 0 d))
         (k .linked .link p (omega arith) f)
 
 -- the row has its leader

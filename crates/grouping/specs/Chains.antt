@@ -21,21 +21,21 @@ pub record LeadsIn (ws : List ℕ) (h p : ℕ) : Type 0 where
   pub chain : chainOf (getD ws p 0) ≡ h
 
 -- c is the place of the last row below m that leads in chain h, or 0 if there is none
-pub record Last (ws : List ℕ) (m h c : ℕ) : Type 0 where
+pub record LastIn (ws : List ℕ) (m h c : ℕ) : Type 0 where
   pub high : c ≤ m
   pub leads : 0 < c → LeadsIn ws h (c - 1)
   pub last : (p : ℕ) → c ≤ p → p < m → LeadsIn ws h p → ⊥
 
 -- each row below m that leads itself is linked to the one before it in its chain
-pub record Linked (ws : List ℕ) (m : ℕ) (links : List ℕ) : Type 0 where
-  pub link : (p : ℕ) → p < m → firstSame ws p ≡ p → Last ws p (chainOf (getD ws p 0)) (getD links p 0)
+pub record LinkedBelow (ws : List ℕ) (m : ℕ) (links : List ℕ) : Type 0 where
+  pub link : (p : ℕ) → p < m → firstSame ws p ≡ p → LastIn ws p (chainOf (getD ws p 0)) (getD links p 0)
 
 -- the chains of the leaders below m
 pub record Chained (ws : List ℕ) (m : ℕ) (heads links : List ℕ) : Type 0 where
   pub chains-long : length heads ≡ chains
   pub links-long : length links ≡ rowBound
-  pub headed : (h : ℕ) → h < chains → Last ws m h (getD heads h 0)
-  pub linked : Linked ws m links
+  pub headed : (h : ℕ) → h < chains → LastIn ws m h (getD heads h 0)
+  pub linked : LinkedBelow ws m links
 
 -- row q has its leader and is in its chain, and r is 0 if it leads itself
 pub record Placed (ws : List ℕ) (q : ℕ) (heads links before after : List ℕ) (r : ℕ) : Type 0 where

@@ -6,7 +6,7 @@ ghost use mathlib.Core.Path.{_≡_};
 ghost use lib.ListN.{getD, length};
 ghost use Rattle.model.specs.Bounds.{rowBound};
 ghost use Rattle.leaders.specs.Keys.{firstSame};
-ghost use Rattle.grouping.specs.Chains.{chains, chainOf, Last, Linked, Chained, Placed};
+ghost use Rattle.grouping.specs.Chains.{chains, chainOf, LastIn, LinkedBelow, Chained, Placed};
 ghost use Rattle.grouping.specs.Grouped.{Grouped};
 use leaders::ROWS;
 
@@ -25,8 +25,8 @@ fn chain(w: u64) -> usize
 // The leader of row q, in a chain of the leaders before it, or q itself. A place in a chain is one more than a row, and 0 is the end.
 fn leader(words: &[u64; ROWS], links: &[u16; ROWS], head: u16, q: usize) -> usize
     requires { ⌜ q < rowBound ⌝ }
-    requires { ⌜ Last (now words) q (chainOf (getD (now words) q 0)) head ⌝ }
-    requires { ⌜ Linked (now words) q (now links) ⌝ }
+    requires { ⌜ LastIn (now words) q (chainOf (getD (now words) q 0)) head ⌝ }
+    requires { ⌜ LinkedBelow (now words) q (now links) ⌝ }
     ensures { λ r. ⌜ r ≡ firstSame (now (words .entry)) q ⌝ }
 {
     let w = words[q];

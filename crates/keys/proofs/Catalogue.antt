@@ -4,13 +4,13 @@ use mathlib.Core.List.{List}
 use Rattle.model.specs.Catalogue.{tables, rows, visible}
 use Rattle.model.specs.Check.{Accepted}
 use Rattle.model.specs.Target.{view}
+use Rattle.model.proofs.Check.{accepted-rows, accepted-visible}
 use Rattle.model.proofs.Target.{view-equivalence}
 use Rattle.leaders.specs.Keys.{LaidFor, Keyed}
 use Rattle.leaders.proofs.Keys.{laid-keyed}
-use Rattle.climb.proofs.Grants.{accepted-grants}
 
-pub laid-catalogue : (b : List ℕ) (t set : ℕ) (keys : List ℕ) → Accepted b → t < tables b → LaidFor (view b t) set keys
-    → Keyed (view b t) set (visible b t) (rows b t) keys
-laid-catalogue b t set keys ok h laid =
-    let s = accepted-grants b ok in
-    laid-keyed (view b t) set keys (view-equivalence b t) (s .narrow t h) (s .long t h) laid
+pub laid-catalogue : (cat : List ℕ) (target set : ℕ) (keys : List ℕ) → Accepted cat → target < tables cat
+    → LaidFor (view cat target) set keys → Keyed (view cat target) set (visible cat target) (rows cat target) keys
+laid-catalogue cat target set keys ok h laid =
+    laid-keyed (view cat target) set keys (view-equivalence cat target) (accepted-visible cat ok target h)
+    (accepted-rows cat ok target h) laid

@@ -12,9 +12,13 @@ use Rattle.model.specs.Bounds.{rowBound}
 use Rattle.model.specs.Bytes.{u16At, u32At}
 use Rattle.model.specs.Catalogue
 use Rattle.model.specs.Catalogue.{tables, tableAt, columns, parent, rows, rowAt, parentRow, cell, visible, inherited}
+use Rattle.model.specs.Check.{Accepted}
 use Rattle.model.specs.View.{View, In, agreeOn}
 use Rattle.model.specs.Target.{cellsAgree, agreeAt, view}
 use Rattle.model.proofs.View.{agreeOn-is}
+use Rattle.model.proofs.Check.{accepted-parent, accepted-visible, accepted-row}
+use Rattle.model.proofs.Climb.{inherited-own}
+use Rattle.model.proofs.Ancestors.{agree-own, agree-above, inherited-root, inherited-step}
 use Rattle.table.proofs.Bits.{bit-none}
 use Rattle.leaders.specs.Leaders.{leaderOf}
 use Rattle.leaders.specs.Keys.{keysSize, keyAt, LaidFor}
@@ -22,8 +26,7 @@ use Rattle.leaders.proofs.Leaders.{firstFrom-same}
 use Rattle.leaders.proofs.Keys.{agreeOn-one, same-test}
 use Rattle.filled.specs.Filled.{Filled}
 use Rattle.filled.proofs.Filled.{filled-first}
-use Rattle.climb.proofs.Grants.{Grants}
-use Rattle.climb.proofs.Climb.{agree-own, agree-above, visible-parts, inherited-root, inherited-step, row-within}
+use Rattle.climb.proofs.Within.{row-within}
 use Rattle.keys.specs.Column.{codeOf, agreeBy, leaderBy, LaidTable}
 
 -- the rows of table t lead to rows of table `at`, with so many columns visible there, on which they agree as the rows reached do; and the members of
@@ -78,14 +81,14 @@ agree-by b at o c i reached p q e f =
     (cell-at b at o c i (getD reached q 0) e f)
     ∙ sym (agree-own b at i (getD reached p 0) (getD reached q 0))
 
-module _ (b : List ℕ) (s : Grants b) {t set at above : ℕ} {reached keys : List ℕ} (h : Laying b t set at above reached keys)
+module _ (b : List ℕ) (ok : Accepted b) {t set at above : ℕ} {reached keys : List ℕ} (h : Laying b t set at above reached keys)
     {o c : ℕ} (e : o ≡ tableAt b at) (f : c ≡ columns b at) where
   -- the own columns of the table are the last of those left
   pub own-left : c ≤ above
-  own-left = omega (arith, visible-parts b s at (h .table), h .left)
+  own-left = omega (arith, inherited-own b at, h .left)
 
   pub few-left : above ≤ columnBound
-  few-left = omega (arith, s .narrow at (h .table), h .left)
+  few-left = omega (arith, accepted-visible b ok at (h .table), h .left)
 
   left-inherited : above - c ≡ inherited b at
   unfolding inherited
@@ -97,7 +100,7 @@ module _ (b : List ℕ) (s : Grants b) {t set at above : ℕ} {reached keys : Li
       omega (
         arith,
         ap₂ (λ (o c : ℕ). o + 6 + getD reached q 0 * (2 + 4 * c)) e f,
-        row-within b s at (getD reached q 0) (h .table) (h .exists q l),
+        row-within b ok at (getD reached q 0) (h .table) (h .exists q l),
       )
 
   -- a leader by an own column of the table is one by the member that it is
@@ -141,7 +144,10 @@ module _ (b : List ℕ) (s : Grants b) {t set at above : ℕ} {reached keys : Li
   -- some are: the table is not the root, and the walk goes on from its parent
   not-root : (set % 2 ^ (above - c) ≡ 0 → ⊥) → at ≡ 0 → ⊥
   not-root some r =
-      let z : set % 2 ^ 0 ≡ 0 = omega arith in some (ap (λ (k : ℕ). set % 2 ^ k) (left-inherited ∙ inherited-root b s at r) ∙ z)
+      let z : set % 2 ^ 0 ≡ 0 = omega arith in some (ap (λ (k : ℕ). set % 2 ^ k) (left-inherited ∙ inherited-root b ok at r) ∙ z)
+
+  has-parent : (set % 2 ^ (above - c) ≡ 0 → ⊥) → 0 < at
+  has-parent some = let n = not-root some in omega arith
 
   parent-at : (up : ℕ) → up ≡ u16At b (o + 2) → up ≡ parent b at
   unfolding Catalogue.parent
@@ -152,7 +158,7 @@ module _ (b : List ℕ) (s : Grants b) {t set at above : ℕ} {reached keys : Li
   parent-row-at x = ap₂ (λ (o c : ℕ). u16At b (o + 6 + x * (2 + 4 * c))) e f
 
   pub parent-lower : (up : ℕ) → up ≡ u16At b (o + 2) → (set % 2 ^ (above - c) ≡ 0 → ⊥) → up < at
-  parent-lower up g some = omega (arith, parent-at up g, s .lower at (h .table) (not-root some))
+  parent-lower up g some = omega (arith, parent-at up g, accepted-parent b ok at (h .table) (has-parent some))
 
   pub laying-next : (end up : ℕ) (after moved : List ℕ) → end ≡ rows b t → LaidTable b o c (above - c) reached end set 0 keys after
       → (set % 2 ^ (above - c) ≡ 0 → ⊥) → up ≡ u16At b (o + 2)
@@ -162,17 +168,17 @@ module _ (b : List ℕ) (s : Grants b) {t set at above : ℕ} {reached keys : Li
       let n = not-root some in
       let p = parent-at up u in
       subst (λ (up : ℕ). Laying b t set up (above - c) moved after) (sym p) (record {
-        table = omega (arith, s .lower at (h .table) n, h .table);
-        left = left-inherited ∙ inherited-step b s at (h .table) n;
+        table = omega (arith, accepted-parent b ok at (h .table) (has-parent some), h .table);
+        left = left-inherited ∙ inherited-step b ok at (h .table) n;
         some = omega (arith, h .some);
         wide = put .same-length ∙ h .wide;
         long = m .same-length ∙ h .long;
         exists = λ q l.
             subst (λ (x : ℕ). x < rows b (parent b at)) (sym (leads q l))
-            (s .below at (getD reached q 0) (h .table) n (h .exists q l));
+            (accepted-row b ok at (h .table) (has-parent some) (getD reached q 0) (h .exists q l));
         agree = λ k p q l lp lq.
             h .agree k p q (omega arith) lp lq
-            ∙ agree-above b s at k (getD reached p 0) (getD reached q 0) (h .table) (omega (arith, left-inherited))
+            ∙ agree-above b ok at k (getD reached p 0) (getD reached q 0) (h .table) (omega (arith, left-inherited))
             ∙ ap₂ (agreeAt b (parent b at) k) (sym (leads p lp)) (sym (leads q lq));
         laid = laid-from end after g m;
       })

@@ -11,7 +11,7 @@ use Rattle.model.specs.View.{In}
 use Rattle.leaders.specs.Keys.{keyAt}
 use Rattle.grouping.specs.Grouped.{Grouped}
 use Rattle.filled.specs.Filled.{Filled}
-use Rattle.keys.specs.Column.{leaderBy, Words, LaidTable}
+use Rattle.keys.specs.Column.{leaderBy, AgreeWords, LaidTable}
 use Rattle.keys.proofs.Words.{leader-by-words}
 
 module _ (b : List ℕ) (o c low : ℕ) (reached : List ℕ) (end set : ℕ) (before : List ℕ) where
@@ -34,7 +34,7 @@ module _ (b : List ℕ) (o c low : ℕ) (reached : List ℕ) (end set : ℕ) (be
 
   -- the keys of another are the leaders by its words
   pub table-more : (j : ℕ) (words leaders keys after : List ℕ) (r : ℕ) → 0 < j → j ≤ c → end ≤ rowBound
-      → Words b (o + 8 + 4 * (j - 1)) (2 + 4 * c) reached end words → Grouped words end leaders r
+      → AgreeWords b (o + 8 + 4 * (j - 1)) (2 + 4 * c) reached end words → Grouped words end leaders r
       → Filled ((low + (j - 1)) * rowBound) ((low + (j - 1)) * rowBound + end) (λ i. getD leaders (i - (low + (j - 1)) * rowBound) 0) keys after
       → LaidTable b o c low reached end set j before keys → LaidTable b o c low reached end set (j - 1) before after
   table-more j words leaders keys after r p l short w g put h = record {

@@ -16,15 +16,15 @@ use Rattle.leaders.proofs.Leaders.{firstFrom-same}
 use Rattle.filled.specs.Filled.{Filled}
 use Rattle.filled.proofs.Below.{below-more}
 use Rattle.filled.proofs.Filled.{filled-none, filled-more, filled-first}
-use Rattle.keys.specs.Column.{codeOf, agreeBy, leaderBy, wordOf, Words}
+use Rattle.keys.specs.Column.{codeOf, agreeBy, leaderBy, cellWord, AgreeWords}
 
 -- the word of a missing cell is beyond all codes, and that of another is its code
-word-missing : (code x : ℕ) → code ≡ missing → wordOf code x ≡ missing + 1 + x
-unfolding wordOf
+word-missing : (code x : ℕ) → code ≡ missing → cellWord code x ≡ missing + 1 + x
+unfolding cellWord
 word-missing code x e = ifEq-yes code e
 
-word-present : (code x : ℕ) → (code ≡ missing → ⊥) → wordOf code x ≡ code
-unfolding wordOf
+word-present : (code x : ℕ) → (code ≡ missing → ⊥) → cellWord code x ≡ code
+unfolding cellWord
 word-present code x n = ifEq-no (missing + 1 + x) n
 
 -- one row agrees with itself, and two agree by their codes
@@ -40,10 +40,10 @@ cells-present : (x y c d : ℕ) → (x ≡ y → ⊥) → (c ≡ missing → ⊥
 unfolding cellsAgree
 cells-present x y c d n e = simp (ne-eqb x y n, ne-eqb c missing e)
 
-words-two : (c d x y : ℕ) → c ≤ missing → d ≤ missing → (x ≡ y → ⊥) → eqb (wordOf c x) (wordOf d y) ≡ cellsAgree x y c d
+words-two : (c d x y : ℕ) → c ≤ missing → d ≤ missing → (x ≡ y → ⊥) → eqb (cellWord c x) (cellWord d y) ≡ cellsAgree x y c d
 words-two c d x y lc ld n = at (ℕ-discrete c missing) (ℕ-discrete d missing)
   where
-    at : Dec (c ≡ missing) → Dec (d ≡ missing) → eqb (wordOf c x) (wordOf d y) ≡ cellsAgree x y c d
+    at : Dec (c ≡ missing) → Dec (d ≡ missing) → eqb (cellWord c x) (cellWord d y) ≡ cellsAgree x y c d
     at (yes e) (yes f) =
         ap₂ eqb (word-missing c x e) (word-missing d y f) ∙ ne-eqb (missing + 1 + x) (missing + 1 + y) (λ g. n (omega arith))
         ∙ sym (cells-missing x y c d n e)
@@ -57,33 +57,33 @@ words-two c d x y lc ld n = at (ℕ-discrete c missing) (ℕ-discrete d missing)
         ap₂ eqb (word-present c x e) (word-present d y f) ∙ sym (cells-present x y c d n e)
 
 words-same : (f : ℕ → ℕ) (x y : ℕ) → f x ≤ missing → f y ≤ missing
-    → eqb (wordOf (f x) x) (wordOf (f y) y) ≡ cellsAgree x y (f x) (f y)
+    → eqb (cellWord (f x) x) (cellWord (f y) y) ≡ cellsAgree x y (f x) (f y)
 words-same f x y lx ly = at (ℕ-discrete x y)
   where
-    at : Dec (x ≡ y) → eqb (wordOf (f x) x) (wordOf (f y) y) ≡ cellsAgree x y (f x) (f y)
+    at : Dec (x ≡ y) → eqb (cellWord (f x) x) (cellWord (f y) y) ≡ cellsAgree x y (f x) (f y)
     at (yes e) =
-        eq-eqb (wordOf (f x) x) (wordOf (f y) y) (ap (λ (z : ℕ). wordOf (f z) z) e) ∙ sym (cells-one x y (f x) (f y) e)
+        eq-eqb (cellWord (f x) x) (cellWord (f y) y) (ap (λ (z : ℕ). cellWord (f z) z) e) ∙ sym (cells-one x y (f x) (f y) e)
     at (no n) = words-two (f x) (f y) x y lx ly n
 
 -- the words of the rows below q, filled one after the other
 pub record Filling (b : List ℕ) (from width : ℕ) (reached : List ℕ) (q : ℕ) (before words : List ℕ) : Type 0 where
-  pub put : Filled 0 q (λ p. wordOf (codeOf b from width (getD reached p 0)) (getD reached p 0)) before words
+  pub put : Filled 0 q (λ p. cellWord (codeOf b from width (getD reached p 0)) (getD reached p 0)) before words
   pub small : (p : ℕ) → p < q → codeOf b from width (getD reached p 0) ≤ missing
 
 pub filling-begun : (b : List ℕ) (from width : ℕ) (reached before : List ℕ) → Filling b from width reached 0 before before
 filling-begun b from width reached before = record { put = filled-none; small = λ p l. absurd (omega arith) }
 
 pub filling-more : (b : List ℕ) (from width : ℕ) (reached : List ℕ) (q : ℕ) (before words : List ℕ) (code x : ℕ) → q < length before
-    → code ≡ codeOf b from width (getD reached q 0) → code ≤ missing → x ≡ wordOf code (getD reached q 0)
+    → code ≡ codeOf b from width (getD reached q 0) → code ≤ missing → x ≡ cellWord code (getD reached q 0)
     → Filling b from width reached q before words → Filling b from width reached (q + 1) before (set words q x)
 filling-more b from width reached q before words code x l e s f h =
     record {
-      put = filled-more (h .put) (omega arith) (omega arith) l (f ∙ ap (λ (z : ℕ). wordOf z (getD reached q 0)) e);
+      put = filled-more (h .put) (omega arith) (omega arith) l (f ∙ ap (λ (z : ℕ). cellWord z (getD reached q 0)) e);
       small = below-more (h .small) (omega arith);
     }
 
 pub filling-done : (b : List ℕ) (from width : ℕ) (reached : List ℕ) (end q : ℕ) (before words : List ℕ) → length before ≡ rowBound → end ≤ q
-    → Filling b from width reached q before words → Words b from width reached end words
+    → Filling b from width reached q before words → AgreeWords b from width reached end words
 unfolding agreeBy
 filling-done b from width reached end q before words long l h =
     record {
@@ -94,7 +94,7 @@ filling-done b from width reached end q before words long l h =
     }
 
 -- the leaders by the words
-pub leader-by-words : (b : List ℕ) (from width : ℕ) (reached : List ℕ) (end : ℕ) (words : List ℕ) → Words b from width reached end words
+pub leader-by-words : (b : List ℕ) (from width : ℕ) (reached : List ℕ) (end : ℕ) (words : List ℕ) → AgreeWords b from width reached end words
     → (q : ℕ) → q < end → firstSame words q ≡ leaderBy b from width reached q
 unfolding firstSame leaderBy
 leader-by-words b from width reached end words h q l =

@@ -31,11 +31,11 @@ leaderBy b from width reached q = firstFrom (λ p. agreeBy b from width reached 
 
 -- the word of row x with a code: the code, and beyond all codes the row itself where the cell is missing. Two rows of a table agree exactly if their
 -- words are equal
-unfoldable pub wordOf : ℕ → ℕ → ℕ
-wordOf code x = ifEq code missing (missing + 1 + x) code
+unfoldable pub cellWord : ℕ → ℕ → ℕ
+cellWord code x = ifEq code missing (missing + 1 + x) code
 
 -- a word for each row of the target, equal exactly where the rows agree
-pub record Words (b : List ℕ) (from width : ℕ) (reached : List ℕ) (end : ℕ) (words : List ℕ) : Type 0 where
+pub record AgreeWords (b : List ℕ) (from width : ℕ) (reached : List ℕ) (end : ℕ) (words : List ℕ) : Type 0 where
   pub long : length words ≡ rowBound
   pub same : (p q : ℕ) → p < end → q < end → eqb (getD words p 0) (getD words q 0) ≡ agreeBy b from width reached p q
 

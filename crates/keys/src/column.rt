@@ -7,7 +7,7 @@ ghost use Rattle.columns.specs.Bound.{columnBound};
 ghost use Rattle.model.specs.Bounds.{rowBound};
 ghost use Rattle.leaders.specs.Keys.{keysSize};
 ghost use Rattle.filled.specs.Filled.{Filled};
-ghost use Rattle.keys.specs.Column.{wordOf, Words};
+ghost use Rattle.keys.specs.Column.{cellWord, AgreeWords};
 use climb::code_at;
 use climb::index;
 use leaders::ROWS;
@@ -16,7 +16,7 @@ use model::MISSING;
 
 // The word that row x is compared by: its code, and beyond all codes the row itself where the cell is missing.
 fn word_of(code: u32, x: u16) -> u64
-    ensures { λ r. ⌜ r ≡ wordOf code x ⌝ }
+    ensures { λ r. ⌜ r ≡ cellWord code x ⌝ }
 {
     if code == MISSING {
         return MISSING as u64 + 1 + x as u64;
@@ -35,7 +35,7 @@ pub fn fill_words(
 )
     requires { ⌜ (end ≤ rowBound) × (length (now words) ≡ rowBound) ⌝ }
     requires { ⌜ ((q : ℕ) → q < end → from + getD (now reached) q 0 * width + 4 ≤ length (now b)) ⌝ }
-    ensures { λ _. ⌜ Words (now (b .entry)) from width (now (reached .entry)) end (now (words .exit)) ⌝ }
+    ensures { λ _. ⌜ AgreeWords (now (b .entry)) from width (now (reached .entry)) end (now (words .exit)) ⌝ }
 {
     let mut q: usize = 0;
     while q < end {

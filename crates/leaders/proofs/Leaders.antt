@@ -22,13 +22,13 @@ use Rattle.table.proofs.Table.{right-agreed, right-lacked}
 use Rattle.leaders.specs.Leaders.{firstFrom, leaderOf, Leader, Strays, LeadsItself, AllLead}
 
 -- r is the first of the n numbers from i on that passes a test, or the one behind them
-pub record First (test : ℕ → Bool) (n i r : ℕ) : Type 0 where
+pub record FirstThat (test : ℕ → Bool) (n i r : ℕ) : Type 0 where
   pub low : i ≤ r
   pub high : r ≤ i + n
   pub passes : r < i + n → T (test r)
   pub lowest : (j : ℕ) → i ≤ j → j < r → T (test j) → ⊥
 
-pub firstFrom-is : (test : ℕ → Bool) (n i : ℕ) → First test n i (firstFrom test n i)
+pub firstFrom-is : (test : ℕ → Bool) (n i : ℕ) → FirstThat test n i (firstFrom test n i)
 unfolding firstFrom
 firstFrom-is test zero i = record {
   low = omega arith;
@@ -38,8 +38,8 @@ firstFrom-is test zero i = record {
 }
 firstFrom-is test (suc n) i = at (test i) refl (firstFrom-is test n (suc i))
   where
-    at : (t : Bool) → test i ≡ t → First test n (suc i) (firstFrom test n (suc i))
-        → First test (suc n) i (pick t i (firstFrom test n (suc i)))
+    at : (t : Bool) → test i ≡ t → FirstThat test n (suc i) (firstFrom test n (suc i))
+        → FirstThat test (suc n) i (pick t i (firstFrom test n (suc i)))
     at true e f = record {
       low = omega arith;
       high = omega arith;
@@ -81,7 +81,7 @@ module _ (v : View) (eq : Equivalence v) where
       leader : ℕ
       leader = firstFrom (λ p. agreeOn v x p q) q 0
 
-      first : First (λ p. agreeOn v x p q) q 0 leader
+      first : FirstThat (λ p. agreeOn v x p q) q 0 leader
       first = firstFrom-is (λ p. agreeOn v x p q) q 0
 
       at : Dec (leader < q) → AgreeOn v x leader q

@@ -26,27 +26,27 @@ use Rattle.leaders.specs.Keys.{keyAt, keyView}
 use Rattle.classes.specs.Classes.{byteStride, numberAt, Numbered}
 use Rattle.lines.specs.declared.part.Comparand.{Comparand}
 use Rattle.lines.specs.declared.part.Eight.{Eight}
-use Rattle.lines.specs.Lines.{lineMembers, Over, sameNumber, partAt, numberedAt, joinedAt, withMember, met, metAt}
+use Rattle.lines.specs.Lines.{lineMembers, LineOf, sameNumber, partAt, numberedAt, joinedAt, withMember, met, metAt}
 use Rattle.lines.specs.Compares.{Compares, ComparesEight, InsideEight, added, eightOf}
 
 -- a line is written row by row
-pub over-begun : (f : ℕ → ℕ) (x : ℕ) (line : List ℕ) → length line ≡ rowBound → Over f x (x + 1) line
-over-begun f x line l = record { long = l; at = λ q h m. absurd (omega arith) }
+pub line-begun : (f : ℕ → ℕ) (x : ℕ) (line : List ℕ) → length line ≡ rowBound → LineOf f x (x + 1) line
+line-begun f x line l = record { long = l; at = λ q h m. absurd (omega arith) }
 
-pub over-more : {f : ℕ → ℕ} {x q : ℕ} {line : List ℕ} (s : ℕ) → q < rowBound → s ≡ f q → Over f x q line → Over f x (q + 1) (set line q s)
-over-more {f} {x} {q} {line} s l e h = record {
+pub line-more : {f : ℕ → ℕ} {x q : ℕ} {line : List ℕ} (s : ℕ) → q < rowBound → s ≡ f q → LineOf f x q line → LineOf f x (q + 1) (set line q s)
+line-more {f} {x} {q} {line} s l e h = record {
   long = simp length-set (h .long);
   at = λ j k m.
       below-more {P = λ j. x < j → word (set line q s) j ≡ f j} (λ j m k. getD-set-other line q j s 0 (λ u. omega arith) ∙ h .at j k m)
       (λ k. getD-set-same line q s 0 (omega (arith, h .long)) ∙ e) j m k;
 }
 
-pub over-done : {f : ℕ → ℕ} {x q end : ℕ} {line : List ℕ} → end ≤ q → Over f x q line → Over f x end line
-over-done l h = record { long = h .long; at = λ j k m. h .at j k (omega arith) }
+pub line-done : {f : ℕ → ℕ} {x q end : ℕ} {line : List ℕ} → end ≤ q → LineOf f x q line → LineOf f x end line
+line-done l h = record { long = h .long; at = λ j k m. h .at j k (omega arith) }
 
 -- the same numbers by another function
-pub over-as : {f : ℕ → ℕ} {x end : ℕ} {line : List ℕ} (g : ℕ → ℕ) → ((q : ℕ) → x < q → q < end → f q ≡ g q) → Over f x end line → Over g x end line
-over-as g e h = record { long = h .long; at = λ q k l. h .at q k l ∙ e q k l }
+pub line-as : {f : ℕ → ℕ} {x end : ℕ} {line : List ℕ} (g : ℕ → ℕ) → ((q : ℕ) → x < q → q < end → f q ≡ g q) → LineOf f x end line → LineOf g x end line
+line-as g e h = record { long = h .long; at = λ q k l. h .at q k l ∙ e q k l }
 
 -- what is ahead stays as it was
 pub record Ahead (q end : ℕ) (before line : List ℕ) : Type 0 where
@@ -272,37 +272,37 @@ pub weighted-fits : (a b w : ℕ) → a < 256 → b < 256 → w ≤ 256 → a + 
 weighted-fits a b w la lb lw = omega (arith, mul-le-mul-right b lw)
 
 -- the same of whole lines
-pub line-low : (bytes : List ℕ) (few x : ℕ) {end : ℕ} (low high : List ℕ) {line : List ℕ} → few < 256 → Over (partAt bytes few x 0) x end low
-    → Over (joinedAt 0 low high) x end line → Over (numberedAt bytes few x) x end line
+pub line-low : (bytes : List ℕ) (few x : ℕ) {end : ℕ} (low high : List ℕ) {line : List ℕ} → few < 256 → LineOf (partAt bytes few x 0) x end low
+    → LineOf (joinedAt 0 low high) x end line → LineOf (numberedAt bytes few x) x end line
 line-low bytes few x low high l part h =
-    over-as (numberedAt bytes few x) (λ q k m. alone (word low q) (word high q) ∙ part .at q k m ∙ low-is bytes few x q l) h
+    line-as (numberedAt bytes few x) (λ q k m. alone (word low q) (word high q) ∙ part .at q k m ∙ low-is bytes few x q l) h
   where
     alone : (a b : ℕ) → a + 0 * b ≡ a
     alone a b = omega arith
 
-pub line-parts : (bytes : List ℕ) (few x : ℕ) {end : ℕ} (low high : List ℕ) {line : List ℕ} → Over (partAt bytes few x 0) x end low
-    → Over (partAt bytes few x 8) x end high → Over (joinedAt 256 low high) x end line → Over (numberedAt bytes few x) x end line
+pub line-parts : (bytes : List ℕ) (few x : ℕ) {end : ℕ} (low high : List ℕ) {line : List ℕ} → LineOf (partAt bytes few x 0) x end low
+    → LineOf (partAt bytes few x 8) x end high → LineOf (joinedAt 256 low high) x end line → LineOf (numberedAt bytes few x) x end line
 line-parts bytes few x low high part other h =
-    over-as (numberedAt bytes few x) (λ q k m. parts-are bytes low high few x q (part .at q k m) (other .at q k m)) h
+    line-as (numberedAt bytes few x) (λ q k m. parts-are bytes low high few x q (part .at q k m) (other .at q k m)) h
 
-pub line-none : (keys bytes : List ℕ) (few x : ℕ) {end : ℕ} {line : List ℕ} → Over (numberedAt bytes few x) x end line
-    → Over (metAt keys bytes few 0 x) x end line
-line-none keys bytes few x h = over-as (metAt keys bytes few 0 x) (λ q k m. met-none keys bytes few x q) h
+pub line-none : (keys bytes : List ℕ) (few x : ℕ) {end : ℕ} {line : List ℕ} → LineOf (numberedAt bytes few x) x end line
+    → LineOf (metAt keys bytes few 0 x) x end line
+line-none keys bytes few x h = line-as (metAt keys bytes few 0 x) (λ q k m. met-none keys bytes few x q) h
 
-pub line-kept : (keys bytes : List ℕ) (few k x : ℕ) {end : ℕ} {line : List ℕ} → bit few k ≡ 1 → Over (metAt keys bytes few k x) x end line
-    → Over (metAt keys bytes few (k + 1) x) x end line
-line-kept keys bytes few k x e h = over-as (metAt keys bytes few (k + 1) x) (λ q l m. met-kept keys bytes few x q k e) h
+pub line-kept : (keys bytes : List ℕ) (few k x : ℕ) {end : ℕ} {line : List ℕ} → bit few k ≡ 1 → LineOf (metAt keys bytes few k x) x end line
+    → LineOf (metAt keys bytes few (k + 1) x) x end line
+line-kept keys bytes few k x e h = line-as (metAt keys bytes few (k + 1) x) (λ q l m. met-kept keys bytes few x q k e) h
 
 pub line-joined : (keys bytes : List ℕ) (few k x : ℕ) {end : ℕ} (before : List ℕ) {after : List ℕ} → k < columnBound → bit few k ≡ 0
-    → Over (withMember keys k x before) x end after → Over (metAt keys bytes few k x) x end before → Over (metAt keys bytes few (k + 1) x) x end after
+    → LineOf (withMember keys k x before) x end after → LineOf (metAt keys bytes few k x) x end before → LineOf (metAt keys bytes few (k + 1) x) x end after
 line-joined keys bytes few k x before small e h was =
-    over-as (metAt keys bytes few (k + 1) x)
+    line-as (metAt keys bytes few (k + 1) x)
     (λ q l m.
     ap (λ (s : ℕ). bitOr s (pick (eqb (keyAt keys k x) (keyAt keys k q)) (2 ^ k) 0)) (was .at q l m)
     ∙ met-joined keys bytes few x q k (omega arith) e)
     h
 
 pub line-all : (keys bytes : List ℕ) (few x n end m : ℕ) {line : List ℕ} → n ≤ columnBound → m ≤ n → ((k : ℕ) → k < n → bit few k ≡ 0 → k < m)
-    → Numbered keys n end few bytes → Over (metAt keys bytes few m x) x end line → Over (agreeSetOf (keyView keys n end) x) x end line
+    → Numbered keys n end few bytes → LineOf (metAt keys bytes few m x) x end line → LineOf (agreeSetOf (keyView keys n end) x) x end line
 line-all keys bytes few x n end m small l rest numbered h =
-    over-as (agreeSetOf (keyView keys n end) x) (λ q k j. met-all keys bytes few x q n end m small l rest (omega arith) j numbered) h
+    line-as (agreeSetOf (keyView keys n end) x) (λ q k j. met-all keys bytes few x q n end m small l rest (omega arith) j numbered) h

@@ -21,7 +21,7 @@ abbrev pub partMembers : ℕ
 partMembers = 8
 
 -- a line has the numbers of f at the rows after x, up to the end
-pub record Over (f : ℕ → ℕ) (x end : ℕ) (line : List ℕ) : Type 0 where
+pub record LineOf (f : ℕ → ℕ) (x end : ℕ) (line : List ℕ) : Type 0 where
   pub long : length line ≡ rowBound
   pub at : (q : ℕ) → x < q → q < end → word line q ≡ f q
 

@@ -12,7 +12,7 @@ ghost use Rattle.model.specs.Bounds.{rowBound};
 ghost use Rattle.table.specs.Broken.{agreeSetOf};
 ghost use Rattle.leaders.specs.Keys.{keyView};
 ghost use Rattle.classes.specs.Classes.{Numbered};
-ghost use Rattle.lines.specs.Lines.{Over};
+ghost use Rattle.lines.specs.Lines.{LineOf};
 use bits::power;
 use classes::BYTES;
 use leaders::ROWS;
@@ -35,7 +35,7 @@ pub fn line_of(
     requires { ⌜ (n ≤ columnBound) × (x < rowBound) × (end ≤ rowBound) ⌝ }
     requires { ⌜ (length (now low) ≡ rowBound) × (length (now high) ≡ rowBound) × (length (now line) ≡ rowBound) ⌝ }
     requires { ⌜ Numbered (now keys) n end few (now bytes) ⌝ }
-    ensures { λ _. ⌜ Over (agreeSetOf (keyView (now (keys .entry)) n end) x) x end (now (line .exit)) ⌝ }
+    ensures { λ _. ⌜ LineOf (agreeSetOf (keyView (now (keys .entry)) n end) x) x end (now (line .exit)) ⌝ }
     ensures { λ _. ⌜ (length (now (low .exit)) ≡ rowBound) × (length (now (high .exit)) ≡ rowBound) ⌝ }
 {
     numbered_line(bytes, few, x, end, low, high, line);

@@ -8,7 +8,7 @@ ghost use Rattle.columns.specs.Test.{pick};
 ghost use Rattle.model.specs.Bounds.{rowBound};
 ghost use Rattle.table.specs.Words.{word};
 ghost use Rattle.classes.specs.Classes.{bytesSize};
-ghost use Rattle.lines.specs.Lines.{Over, joinedAt, partAt, numberedAt};
+ghost use Rattle.lines.specs.Lines.{LineOf, joinedAt, partAt, numberedAt};
 ghost use Rattle.lines.specs.Compares.{Compares, ComparesEight, InsideEight, eightOf};
 use bits::power;
 use classes::BYTES;
@@ -112,7 +112,7 @@ fn agreeing_eight(bytes: &[u8; BYTES], e: Eight, q: usize) -> u8
 // The part of row x's line by the eight members from v on.
 fn compare_eight(bytes: &[u8; BYTES], few: u32, x: usize, v: u32, end: usize, part: &mut [u8; ROWS])
     requires { ⌜ (x < rowBound) × (v + 8 ≤ columnBound) × (end ≤ rowBound) × (length (now part) ≡ rowBound) ⌝ }
-    ensures { λ _. ⌜ Over (partAt (now (bytes .entry)) few x v) x end (now (part .exit)) ⌝ }
+    ensures { λ _. ⌜ LineOf (partAt (now (bytes .entry)) few x v) x end (now (part .exit)) ⌝ }
 {
     let e = eight_of(bytes, few, x, v);
     let mut q = x + 1;
@@ -140,7 +140,7 @@ fn join_parts(
     line: &mut [u16; ROWS],
 )
     requires { ⌜ (x < rowBound) × (end ≤ rowBound) × (length (now line) ≡ rowBound) × (weight ≤ 256) ⌝ }
-    ensures { λ _. ⌜ Over (joinedAt weight (now (low .entry)) (now (high .entry))) x end (now (line .exit)) ⌝ }
+    ensures { λ _. ⌜ LineOf (joinedAt weight (now (low .entry)) (now (high .entry))) x end (now (line .exit)) ⌝ }
 {
     let mut q = x + 1;
     while q < end {
@@ -161,7 +161,7 @@ pub fn numbered_line(
 )
     requires { ⌜ (x < rowBound) × (end ≤ rowBound) ⌝ }
     requires { ⌜ (length (now low) ≡ rowBound) × (length (now high) ≡ rowBound) × (length (now line) ≡ rowBound) ⌝ }
-    ensures { λ _. ⌜ Over (numberedAt (now (bytes .entry)) few x) x end (now (line .exit)) ⌝ }
+    ensures { λ _. ⌜ LineOf (numberedAt (now (bytes .entry)) few x) x end (now (line .exit)) ⌝ }
     ensures { λ _. ⌜ (length (now (low .exit)) ≡ rowBound) × (length (now (high .exit)) ≡ rowBound) ⌝ }
 {
     compare_eight(bytes, few, x, 0, end, low);

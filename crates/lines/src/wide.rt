@@ -7,7 +7,7 @@ ghost use lib.ListN.{length};
 ghost use Rattle.columns.specs.Bound.{columnBound};
 ghost use Rattle.columns.specs.Test.{pick};
 ghost use Rattle.model.specs.Bounds.{rowBound};
-ghost use Rattle.lines.specs.Lines.{Over, withMember, metAt};
+ghost use Rattle.lines.specs.Lines.{LineOf, withMember, metAt};
 use bits::power;
 use leaders::ROWS;
 use leaders::SIZE;
@@ -25,7 +25,7 @@ fn same_key(x: u16, y: u16, w: u16) -> u16
 // The line of row x with the bit of member k at the rows that have the same key there.
 fn add_member(keys: &[u16; SIZE], k: u32, x: usize, end: usize, line: &mut [u16; ROWS])
     requires { ⌜ (k < columnBound) × (x < rowBound) × (end ≤ rowBound) × (length (now line) ≡ rowBound) ⌝ }
-    ensures { λ _. ⌜ Over (withMember (now (keys .entry)) k x (now (line .entry))) x end (now (line .exit)) ⌝ }
+    ensures { λ _. ⌜ LineOf (withMember (now (keys .entry)) k x (now (line .entry))) x end (now (line .exit)) ⌝ }
 {
     let at = k as usize * ROWS;
     let own = keys[at + x];
@@ -41,8 +41,8 @@ fn add_member(keys: &[u16; SIZE], k: u32, x: usize, end: usize, line: &mut [u16;
 fn add_if(keys: &[u16; SIZE], few: u32, k: u32, x: usize, end: usize, line: &mut [u16; ROWS])
     requires { ⌜ (k < columnBound) × (x < rowBound) × (end ≤ rowBound) × (length (now line) ≡ rowBound) ⌝ }
     ensures { λ _.
-        ⌜ ((bytes : List ℕ) → Over (metAt (now (keys .entry)) bytes few k x) x end (now (line .entry))
-        → Over (metAt (now (keys .entry)) bytes few (k + 1) x) x end (now (line .exit))) ⌝ }
+        ⌜ ((bytes : List ℕ) → LineOf (metAt (now (keys .entry)) bytes few k x) x end (now (line .entry))
+        → LineOf (metAt (now (keys .entry)) bytes few (k + 1) x) x end (now (line .exit))) ⌝ }
     ensures { λ _. ⌜ length (now (line .exit)) ≡ rowBound ⌝ }
 {
     if (few >> k) % 2 == 1 {
@@ -55,8 +55,8 @@ fn add_if(keys: &[u16; SIZE], few: u32, k: u32, x: usize, end: usize, line: &mut
 pub fn add_wide(keys: &[u16; SIZE], few: u32, n: u32, x: usize, end: usize, line: &mut [u16; ROWS])
     requires { ⌜ (n ≤ columnBound) × (x < rowBound) × (end ≤ rowBound) × (length (now line) ≡ rowBound) ⌝ }
     ensures { λ _.
-        ⌜ ((bytes : List ℕ) → Over (metAt (now (keys .entry)) bytes few 0 x) x end (now (line .entry))
-        → Over (metAt (now (keys .entry)) bytes few n x) x end (now (line .exit))) ⌝ }
+        ⌜ ((bytes : List ℕ) → LineOf (metAt (now (keys .entry)) bytes few 0 x) x end (now (line .entry))
+        → LineOf (metAt (now (keys .entry)) bytes few n x) x end (now (line .exit))) ⌝ }
 {
     let mut k: u32 = 0;
     while k < n {

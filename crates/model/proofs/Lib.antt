@@ -4,6 +4,8 @@ pub mod View
 pub mod Listed
 pub mod Target
 pub mod Check
+pub mod Climb
+pub mod Ancestors
 pub mod Earlier
 pub mod Sums
 pub mod Rights

@@ -15,7 +15,7 @@ use Rattle.columns.specs.Test.{pick}
 use Rattle.columns.proofs.Test.{ifEq-yes, ifEq-no}
 use Rattle.columns.proofs.Bits.{bit-past, bit-full, bit-complement}
 use Rattle.model.specs.Bounds.{row}
-use Rattle.model.specs.Catalogue.{tables, columns, visible, visibleIn, inherited}
+use Rattle.model.specs.Catalogue.{visible, inherited}
 use Rattle.model.specs.Check.{Accepted}
 use Rattle.model.specs.View.{isIn}
 use Rattle.model.specs.Rights.{rightAt, rightsFrom, rightsIn}
@@ -23,6 +23,7 @@ use Rattle.model.specs.Target.{ownRights}
 use Rattle.model.specs.Listing.{Listing, widthOf, rightsOf, Bounded, ordinary}
 use Rattle.model.proofs.Truth.{true-is, false-is, eqb-is}
 use Rattle.model.proofs.Check.{accepted-tables, accepted-visible}
+use Rattle.model.proofs.Climb.{inherited-visible}
 
 -- numbers in ascending order
 abbrev pub Ascending : List ℕ → Type 0
@@ -174,25 +175,13 @@ module _ (n i : ℕ) (h : i ≤ n) where
       at e (no l) (yes u) = absurd (omega (arith, bit-past (2 ^ suc n - 2 ^ i) (suc n) k range-lt u))
       at e (no l) (no u) = (omega arith, omega arith)
 
--- the visible columns of a table are the inherited and the own ones
+-- the rights of a table are its own columns and the row
 module _ (cat : List ℕ) (target : ℕ) where
-  pub own-visible : columns cat target ≤ visible cat target
-  unfolding visible visibleIn
-  own-visible = omega arith
-
-  pub inherited-own : inherited cat target + columns cat target ≡ visible cat target
-  unfolding inherited
-  inherited-own = omega (arith, own-visible)
-
-  pub inherited-visible : inherited cat target ≤ visible cat target
-  inherited-visible = omega (arith, inherited-own)
-
-  -- its rights are the own columns and the row
   pub own-rights-lt : ownRights cat target < 2 ^ suc (visible cat target)
-  own-rights-lt = range-lt (visible cat target) (inherited cat target) inherited-visible
+  own-rights-lt = range-lt (visible cat target) (inherited cat target) (inherited-visible cat target)
 
   pub own-rights-bit : (k : ℕ) → (bit (ownRights cat target) k ≡ 1) ↔ ((inherited cat target ≤ k) × (k ≤ visible cat target))
-  own-rights-bit k = range-bit (visible cat target) (inherited cat target) inherited-visible k
+  own-rights-bit k = range-bit (visible cat target) (inherited cat target) (inherited-visible cat target) k
 
   -- a right side is an own column, by its visible number, or the row
   pub right-is : (a : ℕ)
@@ -220,7 +209,7 @@ module _ (cat : List ℕ) (target : ℕ) where
           let o = w .0 in
           let u = w .1 in
           (a, omega arith, (own-rights-bit a .1 (o, omega arith), sym (rightAt-column n a u)))
-      back (inr e) = (n, omega arith, (own-rights-bit n .1 (inherited-visible, omega arith), e ∙ sym (rightAt-row n)))
+      back (inr e) = (n, omega arith, (own-rights-bit n .1 (inherited-visible cat target, omega arith), e ∙ sym (rightAt-row n)))
 
 -- the ordinary listing of an accepted catalogue is within the bounds
 pub ordinary-bounded : (cat : List ℕ) → Accepted cat → Bounded (ordinary cat)

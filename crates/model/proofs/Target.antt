@@ -12,20 +12,20 @@ use Rattle.model.specs.Target.{owner, ancestor, cellsAgree, agreeAt, vie
 use Rattle.model.proofs.Truth.{and-is, or-is, not-is, eqb-is}
 
 -- what two cells that agree say, as a proposition
-abbrev Alike : ℕ → ℕ → ℕ → ℕ → Type 0
-Alike p q x y = (p ≡ q) ⊎ ((x ≡ missing → ⊥) × (x ≡ y))
+abbrev CellsAlike : ℕ → ℕ → ℕ → ℕ → Type 0
+CellsAlike p q x y = (p ≡ q) ⊎ ((x ≡ missing → ⊥) × (x ≡ y))
 
-alike : (p q x y : ℕ) → T (cellsAgree p q x y) → Alike p q x y
+alike : (p q x y : ℕ) → T (cellsAgree p q x y) → CellsAlike p q x y
 unfolding cellsAgree
 alike p q x y t = at (or-is (eqb p q) (not (eqb x missing) && eqb x y) .0 t)
   where
-    at : T (eqb p q) ⊎ T (not (eqb x missing) && eqb x y) → Alike p q x y
+    at : T (eqb p q) ⊎ T (not (eqb x missing) && eqb x y) → CellsAlike p q x y
     at (inl e) = inl (eqb-is p q .0 e)
     at (inr r) =
         let h = and-is (not (eqb x missing)) (eqb x y) .0 r in
         inr (λ e. not-is (eqb x missing) .0 (h .0) (eqb-is x missing .1 e), eqb-is x y .0 (h .1))
 
-agree : (p q x y : ℕ) → Alike p q x y → T (cellsAgree p q x y)
+agree : (p q x y : ℕ) → CellsAlike p q x y → T (cellsAgree p q x y)
 unfolding cellsAgree
 agree p q x y (inl e) = or-is (eqb p q) (not (eqb x missing) && eqb x y) .1 (inl (eqb-is p q .1 e))
 agree p q x y (inr h) =
@@ -41,7 +41,7 @@ module _ (f : ℕ → ℕ) where
   symmetric : (p q : ℕ) → T (cellsAgree p q (f p) (f q)) → T (cellsAgree q p (f q) (f p))
   symmetric p q t = agree q p (f q) (f p) (at (alike p q (f p) (f q) t))
     where
-      at : Alike p q (f p) (f q) → Alike q p (f q) (f p)
+      at : CellsAlike p q (f p) (f q) → CellsAlike q p (f q) (f p)
       at (inl e) = inl (sym e)
       at (inr h) = inr (λ e. h .0 (h .1 ∙ e), sym (h .1))
 
@@ -49,7 +49,7 @@ module _ (f : ℕ → ℕ) where
       → T (cellsAgree p r (f p) (f r))
   transitive p q r t u = agree p r (f p) (f r) (at (alike p q (f p) (f q) t) (alike q r (f q) (f r) u))
     where
-      at : Alike p q (f p) (f q) → Alike q r (f q) (f r) → Alike p r (f p) (f r)
+      at : CellsAlike p q (f p) (f q) → CellsAlike q r (f q) (f r) → CellsAlike p r (f p) (f r)
       at (inl e) (inl g) = inl (e ∙ g)
       at (inl e) (inr k) = inr (λ m. k .0 (sym (ap f e) ∙ m), ap f e ∙ k .1)
       at (inr h) (inl g) = inr (h .0, h .1 ∙ ap f g)

@@ -19,13 +19,13 @@ use Rattle.leaders.specs.Keys.{keyAt, keyView, firstSame}
 use Rattle.leaders.proofs.Leaders.{leader-is, leader-unique, same-leader}
 use Rattle.leaders.proofs.Keys.{key-equivalence}
 use Rattle.leaders.proofs.Numbers.{firstSame-leader}
-use Rattle.partition.specs.Partition.{keyBound, wordOf, Led}
+use Rattle.partition.specs.Partition.{keyBound, leaderWord, Led}
 
 -- two numbers a row as one: equal exactly if both are
-word-same : (l k m j : ℕ) → k < keyBound → j < keyBound → (wordOf l k ≡ wordOf m j) ↔ ((l ≡ m) × (k ≡ j))
-word-same l k m j hk hj = (λ e. at e (decLt l m) (decLt m l), λ h. ap₂ wordOf (h .0) (h .1))
+word-same : (l k m j : ℕ) → k < keyBound → j < keyBound → (leaderWord l k ≡ leaderWord m j) ↔ ((l ≡ m) × (k ≡ j))
+word-same l k m j hk hj = (λ e. at e (decLt l m) (decLt m l), λ h. ap₂ leaderWord (h .0) (h .1))
   where
-    at : wordOf l k ≡ wordOf m j → Dec (l < m) → Dec (m < l) → (l ≡ m) × (k ≡ j)
+    at : leaderWord l k ≡ leaderWord m j → Dec (l < m) → Dec (m < l) → (l ≡ m) × (k ≡ j)
     at e (yes a) b = absurd (omega arith)
     at e (no a) (yes b) = absurd (omega arith)
     at e (no a) (no b) = let s : l ≡ m = omega arith in (s, omega arith)
@@ -89,7 +89,7 @@ module _ (keys : List ℕ) (end x : ℕ) where
 
     -- one that it has is joined
     pub led-joined : (ws after : List ℕ) (r : ℕ) → In k x
-        → ((q : ℕ) → q < end → (keyAt keys k q < keyBound) × (getD ws q 0 ≡ wordOf (getD leaders q 0) (keyAt keys k q)))
+        → ((q : ℕ) → q < end → (keyAt keys k q < keyBound) × (getD ws q 0 ≡ leaderWord (getD leaders q 0) (keyAt keys k q)))
         → Grouped ws end after r → Led keys (suc k) end x after r
     led-joined ws after r i words g = record {
       long = g .long;

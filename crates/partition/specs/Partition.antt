@@ -17,8 +17,8 @@ abbrev pub keyBound : ℕ
 keyBound = 65536
 
 -- the leader of a row and its key on one member more, as one number
-abbrev pub wordOf : ℕ → ℕ → ℕ
-wordOf leader key = leader * keyBound + key
+abbrev pub leaderWord : ℕ → ℕ → ℕ
+leaderWord leader key = leader * keyBound + key
 
 -- each row below `end` has its leader on the left side x by the first n members, and r is 0 exactly if each leads itself
 pub record Led (keys : List ℕ) (n end x : ℕ) (leaders : List ℕ) (r : ℕ) : Type 0 where
@@ -27,8 +27,8 @@ pub record Led (keys : List ℕ) (n end x : ℕ) (leaders : List ℕ) (r : ℕ) 
   pub alone : (r ≡ 0) ↔ AllLead (keyView keys n end) x
 
 -- one member more: leaders on a left side with member k, by the members below k, become those by the members up to k
-abbrev pub Joined : List ℕ → ℕ → ℕ → List ℕ → List ℕ → ℕ → Type 0
-Joined keys k end before after r = (x s : ℕ) → In k x → Led keys k end x before s → Led keys (suc k) end x after r
+abbrev pub MemberJoined : List ℕ → ℕ → ℕ → List ℕ → List ℕ → ℕ → Type 0
+MemberJoined keys k end before after r = (x s : ℕ) → In k x → Led keys k end x before s → Led keys (suc k) end x after r
 
 -- no leader stands behind its row
 abbrev pub Back : List ℕ → ℕ → Type 0

@@ -14,7 +14,7 @@ ghost use Rattle.model.specs.Bounds.{rowBound};
 ghost use Rattle.model.specs.View.{In};
 ghost use Rattle.table.specs.Broken.{minimalMask};
 ghost use Rattle.leaders.specs.Keys.{keyView};
-ghost use Rattle.partition.specs.Partition.{keyBound, wordOf, Led, Joined, Back, Gives, GivenBelow, Given, Spares};
+ghost use Rattle.partition.specs.Partition.{keyBound, leaderWord, Led, MemberJoined, Back, Gives, GivenBelow, Given, Spares};
 use bits::power;
 use grouping::group;
 use leaders::ROWS;
@@ -42,7 +42,7 @@ fn lead_by_first(end: usize, leaders: &mut [u16; ROWS]) -> usize
 
 // A leader and a key as one number.
 fn word(leader: u16, key: u16) -> u64
-    ensures { λ r. ⌜ (key < keyBound) × (r ≡ wordOf leader key) ⌝ }
+    ensures { λ r. ⌜ (key < keyBound) × (r ≡ leaderWord leader key) ⌝ }
 {
     leader as u64 * KEY_BOUND + key as u64
 }
@@ -52,7 +52,7 @@ fn join(keys: &[u16; SIZE], k: u32, end: usize, leaders: &mut [u16; ROWS]) -> us
     requires { ⌜ k < columnBound ⌝ }
     requires { ⌜ end ≤ rowBound ⌝ }
     requires { ⌜ length (now leaders) ≡ rowBound ⌝ }
-    ensures { λ r. ⌜ Joined (now (keys .entry)) k end (now (leaders .entry)) (now (leaders .exit)) r ⌝ }
+    ensures { λ r. ⌜ MemberJoined (now (keys .entry)) k end (now (leaders .entry)) (now (leaders .exit)) r ⌝ }
 {
     let at = k as usize * ROWS;
     let mut words = [0u64; ROWS];

@@ -9,7 +9,7 @@ use lib.ListN.{length, set, length-set}
 use lib.Seq.{getD-set-same, getD-set-other}
 use Rattle.columns.specs.Set.{bit}
 use Rattle.table.specs.Words.{word, Above, Closed}
-use Rattle.planes.specs.Bits.{SelectedWord, ClosedWord, Filled}
+use Rattle.planes.specs.Bits.{SelectedWord, ClosedWord, PlaneFrom}
 use Rattle.planes.proofs.Bits.{power-words, above-high, above-low, above-parts, planeBit-parts}
 
 -- the word at y selected and closed by itself
@@ -67,7 +67,7 @@ filling-more a i end mid new seeds before plane h l select close f =
 -- and closed over the words
 pub filled : (n a : ℕ) (seeds mid plane : List ℕ) → 5 ≤ n
     → ((y : ℕ) → y < 2 ^ (n - 5) → FromWord a y (word seeds y) (word mid y)) → Closed (n - 5) mid plane
-    → Filled n a seeds plane
+    → PlaneFrom n a seeds plane
 filled n a seeds mid plane h from close =
     record {
       sound = λ x l e.

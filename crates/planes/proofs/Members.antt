@@ -12,7 +12,7 @@ use Rattle.columns.specs.Set.{bit, withoutOf}
 use Rattle.columns.proofs.Bits.{bit-without-other, without-some}
 use Rattle.model.proofs.Truth.{true-is}
 use Rattle.table.specs.Words.{Above}
-use Rattle.table.proofs.Bits.{bit-none, lowest, rest-without}
+use Rattle.table.proofs.Bits.{bit-none, has-lowest, rest-without}
 use Rattle.planes.specs.Bits.{planeBit, Narrow}
 
 -- the lowest member left to pass, and what is left without it
@@ -23,7 +23,7 @@ pub record Next (x left k : ℕ) : Type 0 where
 
 next-member : (x left : ℕ) → 0 < left → Above left x → (k : ℕ) × Next x left k
 next-member x left h up =
-    let w = lowest left h in
+    let w = has-lowest left h in
     let k = w .0 in
     let e = w .1 .rest in
     let i : bit left k ≡ 1 = w .1 .in-it in
@@ -37,22 +37,22 @@ next-member x left h up =
     )
 
 -- with `left` still to pass
-pub record Passing (plane : List ℕ) (x a left : ℕ) : Type 0 where
+pub record NarrowSoFar (plane : List ℕ) (x a left : ℕ) : Type 0 where
   pub within : Above left x
   pub given : planeBit plane x ≡ 0
   pub outside : bit x a ≡ 0
   pub passed : (k : ℕ) → bit x k ≡ 1 → bit left k ≡ 0 → planeBit plane (withoutOf x k) ≡ 1
 
-pub passing-begun : (plane : List ℕ) (x a : ℕ) → planeBit plane x ≡ 0 → bit x a ≡ 0 → Passing plane x a x
-passing-begun plane x a g o =
+pub narrow-begun : (plane : List ℕ) (x a : ℕ) → planeBit plane x ≡ 0 → bit x a ≡ 0 → NarrowSoFar plane x a x
+narrow-begun plane x a g o =
     record { within = λ k i. i; given = g; outside = o; passed = λ k i n. absurd (omega arith) }
 
-pub passing-more : (plane : List ℕ) (x a left : ℕ) → 0 < left → Passing plane x a left
-    → planeBit plane (x - (left - bitAnd left (left - 1))) ≡ 1 → Passing plane x a (bitAnd left (left - 1))
-passing-more plane x a left h d b =
+pub narrow-more : (plane : List ℕ) (x a left : ℕ) → 0 < left → NarrowSoFar plane x a left
+    → planeBit plane (x - (left - bitAnd left (left - 1))) ≡ 1 → NarrowSoFar plane x a (bitAnd left (left - 1))
+narrow-more plane x a left h d b =
     let w = next-member x left h (d .within) in
     let k = w .0 in
-    subst (λ (z : ℕ). Passing plane x a z) (sym (w .1 .rest))
+    subst (λ (z : ℕ). NarrowSoFar plane x a z) (sym (w .1 .rest))
     (record {
       within = λ j e. d .within j (kept k (w .1 .in-it) j e (ℕ-discrete j k));
       given = d .given;
@@ -70,16 +70,16 @@ passing-more plane x a left h d b =
     next k f j i n (no m) = d .passed j i (sym (bit-without-other left j k m) ∙ n)
 
 -- a left side with a column less gives the right too
-pub passing-failed : (plane : List ℕ) (x a left : ℕ) → 0 < left → Passing plane x a left
+pub narrow-failed : (plane : List ℕ) (x a left : ℕ) → 0 < left → NarrowSoFar plane x a left
     → planeBit plane (x - (left - bitAnd left (left - 1))) ≡ 0 → Narrow plane x a → ⊥
-passing-failed plane x a left h d b f =
+narrow-failed plane x a left h d b f =
     let w = next-member x left h (d .within) in
     let k = w .0 in
     omega (arith, ap (planeBit plane) (w .1 .less), b, f .spare k (d .within k (w .1 .in-it)))
 
 -- every member is passed
-pub passing-done : (plane : List ℕ) (x a left : ℕ) → left ≡ 0 → Passing plane x a left → Narrow plane x a
-passing-done plane x a left e d =
+pub narrow-done : (plane : List ℕ) (x a left : ℕ) → left ≡ 0 → NarrowSoFar plane x a left → Narrow plane x a
+narrow-done plane x a left e d =
     record {
       given = d .given;
       outside = d .outside;

@@ -18,12 +18,12 @@ use Rattle.table.specs.Broken.{agreeSetOf}
 use Rattle.model.specs.Rights.{rightAt}
 use Rattle.table.proofs.Table.{agreeSet-below, above-agreeOn, agreeOn-above, member-below, right-agreed, right-lacked}
 use Rattle.table.proofs.Table.{right-in, bit-zero-if}
-use Rattle.planes.specs.Bits.{planeBit, Filled, Narrow}
+use Rattle.planes.specs.Bits.{planeBit, PlaneFrom, Narrow}
 use Rattle.planes.specs.Plane.{Seeds, Plane}
 
 -- the plane of a right
 pub seeds-filled-plane : (v : View) (a : ℕ) (seeds plane : List ℕ) → Equivalence v → v .members ≤ columnBound
-    → a ≤ v .members → Seeds v seeds → Filled (v .members) a seeds plane → Plane v a plane
+    → a ≤ v .members → Seeds v seeds → PlaneFrom (v .members) a seeds plane → Plane v a plane
 seeds-filled-plane v a seeds plane eq b h scan fill x l = (
   λ e.
       let f = fill .sound x l e in

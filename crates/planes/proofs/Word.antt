@@ -11,7 +11,7 @@ use lib.Bits.{bitAnd, bitOr, or-add-and, and-le-l}
 use lib.ListN.{length}
 use Rattle.columns.specs.Set.{bit}
 use Rattle.columns.proofs.Bits.{bit-zero, bit-above, bit-and, bits-same}
-use Rattle.table.specs.Words.{word, Joined, Closed}
+use Rattle.table.specs.Words.{word, ColumnJoined, Closed}
 use Rattle.table.proofs.Bits.{bit-or, bit-none, bit-power-other, bit-with-same, bit-with-other, with-below}
 use Rattle.table.proofs.Closing.{ClosedBelow, close-more}
 use Rattle.planes.specs.Bits.{clearOf, SelectedWord, ClosedWord}
@@ -126,7 +126,7 @@ module _ (w k : ℕ) (h : k < 5) where
           none : (d : ℕ) → d < 2 → (d ≡ 1 → ⊥) → d ≡ 0
           none d l n = omega arith
 
-  pub joined-word : Joined 5 k (bits w) (bits (bitOr w (bitAnd (w / 2 ^ 2 ^ k) (clearOf k))))
+  pub joined-word : ColumnJoined 5 k (bits w) (bits (bitOr w (bitAnd (w / 2 ^ 2 ^ k) (clearOf k))))
   unfolding new bits
   joined-word =
       record {

@@ -29,7 +29,7 @@ pub record ClosedWord (before after : ℕ) : Type 0 where
   pub complete : (x s : ℕ) → x < 32 → s < 32 → Above x s → bit before s ≡ 1 → bit after x ≡ 1
 
 -- the plane of right a from the seeds: the bit of x is 1 exactly if some seed without a is x or larger
-pub record Filled (n a : ℕ) (seeds plane : List ℕ) : Type 0 where
+pub record PlaneFrom (n a : ℕ) (seeds plane : List ℕ) : Type 0 where
   pub sound : (x : ℕ) → x < 2 ^ n → planeBit plane x ≡ 1
       → (s : ℕ) × (s < 2 ^ n) × Above x s × (bit s a ≡ 0) × (planeBit seeds s ≡ 1)
   pub complete : (x s : ℕ) → x < 2 ^ n → s < 2 ^ n → Above x s → bit s a ≡ 0 → planeBit seeds s ≡ 1

@@ -7,7 +7,7 @@ ghost use mathlib.Core.Bool.{true};
 ghost use mathlib.Core.Logic.{_↔_};
 ghost use lib.ListN.{length};
 ghost use Rattle.columns.specs.Bound.{columnBound};
-ghost use Rattle.planes.specs.Bits.{planeBit, clearOf, SelectedWord, ClosedWord, Filled, Narrow};
+ghost use Rattle.planes.specs.Bits.{planeBit, clearOf, SelectedWord, ClosedWord, PlaneFrom, Narrow};
 use bits::power;
 
 // The word with a 1 at each position whose bit k is 0.
@@ -49,7 +49,7 @@ fn close_word(word: u32) -> u32
 pub fn fill(words: &[u32], n: u32, a: u32, plane: &mut [u32])
     requires { ⌜ (5 ≤ n) × (n ≤ columnBound) × (a ≤ n) × (2 ^ (n - 5) ≤ length (now words))
         × (2 ^ (n - 5) ≤ length (now plane)) ⌝ }
-    ensures { λ r. ⌜ Filled n a (now (words .entry)) (now (plane .exit)) ⌝ }
+    ensures { λ r. ⌜ PlaneFrom n a (now (words .entry)) (now (plane .exit)) ⌝ }
 {
     let end = power(n - 5);
     let mut i = 0;

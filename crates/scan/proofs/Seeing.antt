@@ -15,15 +15,15 @@ use Rattle.model.specs.View.{View}
 use Rattle.table.specs.Words.{word}
 use Rattle.table.specs.Broken.{agreeSetOf, Pair}
 use Rattle.leaders.specs.Keys.{keyView}
-use Rattle.lines.specs.Lines.{Over}
-use Rattle.scan.specs.Seen.{Stands, NotedOne, Noted, Blank, Seen}
+use Rattle.lines.specs.Lines.{LineOf}
+use Rattle.scan.specs.SeenSets.{InLine, SetNoted, LineNoted, Blank, SeenSets}
 
 -- one set
-pub noted-already : (s : ℕ) (seen : List ℕ) → word seen s ≡ 1 → NotedOne s seen seen
+pub noted-already : (s : ℕ) (seen : List ℕ) → word seen s ≡ 1 → SetNoted s seen seen
 noted-already s seen e =
     record { same-length = refl; noted = λ t. (λ u. inl u, λ f. ⊎-elim (λ u. u) (λ u. ap (word seen) u ∙ e) f) }
 
-pub noted-now : (s : ℕ) (seen : List ℕ) → s < length seen → NotedOne s seen (set seen s 1)
+pub noted-now : (s : ℕ) (seen : List ℕ) → s < length seen → SetNoted s seen (set seen s 1)
 noted-now s seen l = record { same-length = length-set seen s 1; noted = λ t. at t (ℕ-discrete t s) }
   where
     at : (t : ℕ) → Dec (t ≡ s) → (word (set seen s 1) t ≡ 1) ↔ ((word seen t ≡ 1) ⊎ (t ≡ s))
@@ -33,14 +33,14 @@ noted-now s seen l = record { same-length = length-set seen s 1; noted = λ t. a
         (λ u. inl (sym other ∙ u), λ f. ⊎-elim (λ u. other ∙ u) (λ u. absurd (d u)) f)
 
 -- the sets of a line, one after the other
-pub noted-none : (line seen : List ℕ) (from : ℕ) → Noted line from from seen seen
+pub noted-none : (line seen : List ℕ) (from : ℕ) → LineNoted line from from seen seen
 noted-none line seen from = record {
   same-length = refl;
   noted = λ s. (λ e. inl e, λ f. ⊎-elim (λ e. e) (λ g. absurd (omega (arith, g .1, g .2))) f);
 }
 
-pub noted-more : {line before seen after : List ℕ} {from q : ℕ} → from ≤ q → NotedOne (word line q) seen after
-    → Noted line from q before seen → Noted line from (q + 1) before after
+pub noted-more : {line before seen after : List ℕ} {from q : ℕ} → from ≤ q → SetNoted (word line q) seen after
+    → LineNoted line from q before seen → LineNoted line from (q + 1) before after
 noted-more {line} {before} {seen} {after} {from} {q} l one h = record {
   same-length = one .same-length ∙ h .same-length;
   noted = λ s. (
@@ -52,13 +52,13 @@ noted-more {line} {before} {seen} {after} {from} {q} l one h = record {
   );
 }
   where
-    at : (s : ℕ) (g : Stands line from (q + 1) s) → Dec (g .0 ≡ q) → (word seen s ≡ 1) ⊎ (s ≡ word line q)
+    at : (s : ℕ) (g : InLine line from (q + 1) s) → Dec (g .0 ≡ q) → (word seen s ≡ 1) ⊎ (s ≡ word line q)
     at s g (yes e) = inr (sym (g .3) ∙ ap (word line) e)
     at s g (no d) = inl (h .noted s .1 (inr (g .0, g .1, omega (arith, g .2), g .3)))
 
-pub noted-all : {line before seen : List ℕ} {from end q : ℕ} → end ≤ q → q ≤ end → Noted line from q before seen
-    → Noted line from end before seen
-noted-all {line} {before} {seen} {from} l m h = subst (λ (e : ℕ). Noted line from e before seen) (omega arith) h
+pub noted-all : {line before seen : List ℕ} {from end q : ℕ} → end ≤ q → q ≤ end → LineNoted line from q before seen
+    → LineNoted line from end before seen
+noted-all {line} {before} {seen} {from} l m h = subst (λ (e : ℕ). LineNoted line from e before seen) (omega arith) h
 
 -- the scan has come to row x: the pairs of the rows before it are noted
 pub record SeenBefore (keys : List ℕ) (n end x : ℕ) (seen : List ℕ) : Type 0 where
@@ -81,8 +81,8 @@ seen-none keys n end seen blank = record {
   occurs = λ s. (λ e. absurd (omega (arith, blank .zeros s)), λ f. absurd (omega (arith, f .2)));
 }
 
-pub seen-more : {keys : List ℕ} {n end x : ℕ} {line before after : List ℕ} → x < end → Over (agreeSetOf (keyView keys n end) x) x end line
-    → Noted line (x + 1) end before after → SeenBefore keys n end x before → SeenBefore keys n end (x + 1) after
+pub seen-more : {keys : List ℕ} {n end x : ℕ} {line before after : List ℕ} → x < end → LineOf (agreeSetOf (keyView keys n end) x) x end line
+    → LineNoted line (x + 1) end before after → SeenBefore keys n end x before → SeenBefore keys n end (x + 1) after
 seen-more {keys} {n} {end} {x} {line} {before} {after} l sets noted h = record {
   long = noted .same-length ∙ h .long;
   occurs = λ s. (
@@ -98,13 +98,13 @@ seen-more {keys} {n} {end} {x} {line} {before} {after} l sets noted h = record {
     v = keyView keys n end
 
     at : (s p q : ℕ) → p < x + 1 → Pair v p q → agreeSetOf v p q ≡ s → Dec (p ≡ x)
-        → (word before s ≡ 1) ⊎ Stands line (x + 1) end s
+        → (word before s ≡ 1) ⊎ InLine line (x + 1) end s
     at s p q k pair e (yes u) =
         let after : x < q = omega (arith, pair .0) in
         inr (q, omega arith, pair .1, sets .at q after (pair .1) ∙ ap (λ (p : ℕ). agreeSetOf v p q) (sym u) ∙ e)
     at s p q k pair e (no d) = inl (h .occurs s .1 (p, q, omega arith, pair, e))
 
-pub seen-all : {keys : List ℕ} {n end x : ℕ} {seen : List ℕ} → end ≤ x → SeenBefore keys n end x seen → Seen keys n end seen
+pub seen-all : {keys : List ℕ} {n end x : ℕ} {seen : List ℕ} → end ≤ x → SeenBefore keys n end x seen → SeenSets keys n end seen
 seen-all l h = record {
   occurs = λ s. (
     λ e. let f = h .occurs s .0 e in (f .0, f .1, f .3, f .4),
@@ -113,7 +113,7 @@ seen-all l h = record {
 }
 
 -- an agree set has its byte
-pub sets-small : (keys : List ℕ) (n x end : ℕ) {line : List ℕ} → n ≤ columnBound → Over (agreeSetOf (keyView keys n end) x) x end line
+pub sets-small : (keys : List ℕ) (n x end : ℕ) {line : List ℕ} → n ≤ columnBound → LineOf (agreeSetOf (keyView keys n end) x) x end line
     → (q : ℕ) → x < q → q < end → word line q < 2 ^ columnBound
 sets-small keys n x end b sets q k l =
     subst (λ (w : ℕ). w < 2 ^ columnBound) (sym (sets .at q k l))

@@ -26,7 +26,7 @@ use Rattle.planes.proofs.Bits.{power-words}
 use Rattle.planes.proofs.Seeds.{gathered-seeds, sown-kept}
 use Rattle.leaders.specs.Keys.{keyView, Keyed}
 use Rattle.leaders.proofs.Keys.{key-equivalence, keyed-table, keyed-seeds}
-use Rattle.scan.specs.Seen.{Seen, seenAt, notedWord}
+use Rattle.scan.specs.SeenSets.{SeenSets, seenAt, brokenWord}
 use Rattle.lines.proofs.Lines.{or-next}
 use Rattle.filled.specs.Filled.{Filled}
 use Rattle.filled.proofs.Filled.{filled-first}
@@ -42,8 +42,8 @@ set-inside n s e h is l = omega (arith, pow-mono {i = n} {j = columnBound} h)
 pub set-fits : (n m s e p : ℕ) → e ≡ 2 ^ n → p ≡ 2 ^ m → s < e → n ≤ m → s ≤ p - 1
 set-fits n m s e p is next l h = omega (arith, pow-mono {i = n} {j = m} h)
 
-pub noted-is : (seen : List ℕ) (n s p r : ℕ) → p ≡ 2 ^ (n + 1) → r ≡ pick (seenAt seen s) (p - 1 - s) 0 → r ≡ notedWord seen n s
-noted-is seen n s p r next e =
+pub broken-is : (seen : List ℕ) (n s p r : ℕ) → p ≡ 2 ^ (n + 1) → r ≡ pick (seenAt seen s) (p - 1 - s) 0 → r ≡ brokenWord seen n s
+broken-is seen n s p r next e =
     e ∙ ap (λ (p : ℕ). pick (seenAt seen s) (p - 1 - s) 0) (next ∙ ap (λ (k : ℕ). 2 ^ k) (add-one n))
 
 -- the bits of 32 agree sets: the first j are gathered
@@ -74,14 +74,14 @@ pub none-cached : (n m : ℕ) (ws : List ℕ) → m ≡ seedWords n → m + 4 �
 none-cached n m ws is l = subst (λ (k : ℕ). word (set ws (m + 1) 0) (k + 1) ≡ 0) is (getD-set-same ws (m + 1) 0 0 (omega arith))
 
 -- the bytes as tests
-module _ {keys seen : List ℕ} {n end : ℕ} (seen-is : Seen keys n end seen) where
+module _ {keys seen : List ℕ} {n end : ℕ} (seen-is : SeenSets keys n end seen) where
   tests : (s : ℕ) → T (seenAt seen s) ↔ Occurs (keyView keys n end) s
   tests s =
       let is = eqb-is (word seen s) 1 in
       (λ t. seen-is .occurs s .0 (is .0 t), λ f. is .1 (seen-is .occurs s .1 f))
 
   -- written and closed, the words are the table
-  pub built : {before mid after : List ℕ} → n ≤ columnBound → Filled 0 (2 ^ n) (notedWord seen n) before mid → Closed n mid after
+  pub built : {before mid after : List ℕ} → n ≤ columnBound → Filled 0 (2 ^ n) (brokenWord seen n) before mid → Closed n mid after
       → (v : View) → Keyed v (2 ^ n - 1) n end keys → Table v after
   built {before} {mid} {after} few written closed v keyed =
       keyed-table keyed after

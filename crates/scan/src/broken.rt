@@ -7,7 +7,7 @@ ghost use Rattle.model.specs.View.{View};
 ghost use Rattle.table.specs.Broken.{Table};
 ghost use Rattle.leaders.specs.Keys.{Keyed};
 ghost use Rattle.filled.specs.Filled.{Filled};
-ghost use Rattle.scan.specs.Seen.{notedWord};
+ghost use Rattle.scan.specs.SeenSets.{brokenWord};
 use crate::SETS;
 use crate::pairs::if_seen;
 use crate::pairs::occurring;
@@ -16,9 +16,9 @@ use leaders::SIZE;
 use table::close;
 
 // Writes what each agree set that is seen breaks.
-fn note_broken(seen: &[u8; SETS], n: u32, words: &mut [u32])
+fn write_broken(seen: &[u8; SETS], n: u32, words: &mut [u32])
     requires { ⌜ (n ≤ columnBound) × (2 ^ n ≤ length (now words)) ⌝ }
-    ensures { λ _. ⌜ Filled 0 (2 ^ n) (notedWord (now (seen .entry)) n) (now (words .entry)) (now (words .exit)) ⌝ }
+    ensures { λ _. ⌜ Filled 0 (2 ^ n) (brokenWord (now (seen .entry)) n) (now (words .entry)) (now (words .exit)) ⌝ }
 {
     let all = power(n + 1) - 1;
     let end = power(n);
@@ -36,6 +36,6 @@ pub fn build(keys: &[u16; SIZE], n: u32, end: usize, words: &mut [u32])
 {
     let mut seen = [0; SETS];
     occurring(keys, n, end, &mut seen);
-    note_broken(&seen, n, words);
+    write_broken(&seen, n, words);
     close(words, n);
 }

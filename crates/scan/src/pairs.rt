@@ -7,7 +7,7 @@ ghost use Rattle.columns.specs.Bound.{columnBound};
 ghost use Rattle.columns.specs.Test.{pick};
 ghost use Rattle.model.specs.Bounds.{rowBound};
 ghost use Rattle.table.specs.Words.{word};
-ghost use Rattle.scan.specs.Seen.{NotedOne, Noted, Blank, Seen};
+ghost use Rattle.scan.specs.SeenSets.{SetNoted, LineNoted, Blank, SeenSets};
 use crate::SETS;
 use classes::BYTES;
 use classes::number;
@@ -18,7 +18,7 @@ use lines::line_of;
 // Notes an agree set. Most are noted already, and a test takes less time than a store.
 fn note(seen: &mut [u8; SETS], s: u16)
     requires { ⌜ (s < 2 ^ columnBound) × (length (now seen) ≡ 2 ^ columnBound) ⌝ }
-    ensures { λ _. ⌜ NotedOne s (now (seen .entry)) (now (seen .exit)) ⌝ }
+    ensures { λ _. ⌜ SetNoted s (now (seen .entry)) (now (seen .exit)) ⌝ }
 {
     let at = s as usize;
     if seen[at] == 1 {
@@ -31,7 +31,7 @@ fn note(seen: &mut [u8; SETS], s: u16)
 fn note_line(seen: &mut [u8; SETS], line: &[u16; ROWS], from: usize, end: usize)
     requires { ⌜ (from ≤ end) × (end ≤ rowBound) × (length (now seen) ≡ 2 ^ columnBound) ⌝ }
     requires { ⌜ ((q : ℕ) → from ≤ q → q < end → word (now line) q < 2 ^ columnBound) ⌝ }
-    ensures { λ _. ⌜ Noted (now (line .entry)) from end (now (seen .entry)) (now (seen .exit)) ⌝ }
+    ensures { λ _. ⌜ LineNoted (now (line .entry)) from end (now (seen .entry)) (now (seen .exit)) ⌝ }
 {
     let mut q = from;
     while q < end {
@@ -44,7 +44,7 @@ fn note_line(seen: &mut [u8; SETS], line: &[u16; ROWS], from: usize, end: usize)
 pub fn occurring(keys: &[u16; SIZE], n: u32, end: usize, seen: &mut [u8; SETS])
     requires { ⌜ (n ≤ columnBound) × (end ≤ rowBound) ⌝ }
     requires { ⌜ Blank (now seen) ⌝ }
-    ensures { λ _. ⌜ Seen (now (keys .entry)) n end (now (seen .exit)) ⌝ }
+    ensures { λ _. ⌜ SeenSets (now (keys .entry)) n end (now (seen .exit)) ⌝ }
 {
     let mut bytes = [0u8; BYTES];
     let few = number(keys, n, end, &mut bytes);

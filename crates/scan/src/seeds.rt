@@ -10,7 +10,7 @@ ghost use Rattle.planes.specs.Bits.{planeWord};
 ghost use Rattle.planes.specs.Plane.{seedWords, Sown};
 ghost use Rattle.leaders.specs.Keys.{Keyed};
 ghost use Rattle.filled.specs.Filled.{Filled};
-ghost use Rattle.scan.specs.Seen.{seenAt};
+ghost use Rattle.scan.specs.SeenSets.{seenAt};
 use crate::SETS;
 use crate::pairs::if_seen;
 use crate::pairs::occurring;

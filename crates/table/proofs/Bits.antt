@@ -88,35 +88,35 @@ pub with-below : (n x k : ℕ) → x < 2 ^ n → k < n → bitOr x (2 ^ k) < 2 ^
 with-below n x k h l = or-lt n x (2 ^ k) h (pow-lt l)
 
 -- x & (x - 1) is x without its lowest bit
-pub record Lowest (x k : ℕ) : Type 0 where
+pub record LowestBit (x k : ℕ) : Type 0 where
   pub in-it : bit x k ≡ 1
   pub rest : bitAnd x (x - 1) + 2 ^ k ≡ x
 
-lowest-odd : (x : ℕ) → x % 2 ≡ 1 → Lowest x 0
+lowest-odd : (x : ℕ) → x % 2 ≡ 1 → LowestBit x 0
 lowest-odd x e =
     let h : (x - 1) / 2 ≡ x / 2 = omega arith in
     let l : (x - 1) % 2 ≡ 0 = omega arith in
     let s = ap (bitAnd (x / 2)) h ∙ and-self (x / 2) in
     record { in-it = bit-zero x ∙ e; rest = omega (arith, and-step x (x - 1)) }
 
-lowest-even : (x k : ℕ) → x % 2 ≡ 0 → 0 < x → Lowest (x / 2) k → Lowest x (suc k)
+lowest-even : (x k : ℕ) → x % 2 ≡ 0 → 0 < x → LowestBit (x / 2) k → LowestBit x (suc k)
 lowest-even x k e p w =
     let h : (x - 1) / 2 ≡ x / 2 - 1 = omega arith in
     let s = ap (bitAnd (x / 2)) h in
     let t = w .rest in
     record { in-it = bit-suc x k ∙ w .in-it; rest = omega (arith, and-step x (x - 1), two-pow-succ k) }
 
-pub lowest : (x : ℕ) → 0 < x → (k : ℕ) × Lowest x k
-lowest =
-    bin-ind (λ (x : ℕ). 0 < x → (k : ℕ) × Lowest x k) (λ h. absurd (omega arith))
+pub has-lowest : (x : ℕ) → 0 < x → (k : ℕ) × LowestBit x k
+has-lowest =
+    bin-ind (λ (x : ℕ). 0 < x → (k : ℕ) × LowestBit x k) (λ h. absurd (omega arith))
     (λ x half h. at x h half (x % 2) refl (omega arith))
   where
-    at : (x : ℕ) → 0 < x → (0 < x / 2 → (k : ℕ) × Lowest (x / 2) k) → (d : ℕ) → x % 2 ≡ d → d < 2 → (k : ℕ) × Lowest x k
+    at : (x : ℕ) → 0 < x → (0 < x / 2 → (k : ℕ) × LowestBit (x / 2) k) → (d : ℕ) → x % 2 ≡ d → d < 2 → (k : ℕ) × LowestBit x k
     at x h half zero e l = let w = half (omega arith) in (suc (w .0), lowest-even x (w .0) e h (w .1))
     at x h half (suc zero) e l = (0, lowest-odd x e)
     at x h half (suc (suc d)) e l = absurd (omega arith)
 
-pub rest-without : (x k : ℕ) → Lowest x k → bitAnd x (x - 1) ≡ withoutOf x k
+pub rest-without : (x k : ℕ) → LowestBit x k → bitAnd x (x - 1) ≡ withoutOf x k
 rest-without x k w = let e = w .rest in omega (arith, without-some x k (w .in-it))
 
 -- bit k of the mask is 1 exactly if k is below m and passes the test

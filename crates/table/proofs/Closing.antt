@@ -11,7 +11,7 @@ use lib.Bits.{bitOr}
 use lib.ListN.{length}
 use Rattle.columns.specs.Set.{bit}
 use Rattle.columns.proofs.Bits.{bits-same, bit-past}
-use Rattle.table.specs.Words.{word, Above, Joined, Closed}
+use Rattle.table.specs.Words.{word, Above, ColumnJoined, Closed}
 use Rattle.table.proofs.Bits.{bit-or, bit-with-same, bit-with-other, with-below}
 
 -- s is x or larger, and the same from column k on
@@ -86,7 +86,7 @@ either : (x y : ℕ) → max x y ≡ 1 → x < 2 → y < 2 → (x ≡ 1) ⊎ (y 
 either zero y e hx hy = inr (omega arith)
 either (suc x) y e hx hy = inl (omega arith)
 
-pub close-more : (n k : ℕ) (before mid after : List ℕ) → k < n → ClosedBelow n k before mid → Joined n k mid after
+pub close-more : (n k : ℕ) (before mid after : List ℕ) → k < n → ClosedBelow n k before mid → ColumnJoined n k mid after
     → ClosedBelow n (suc k) before after
 close-more n k before mid after h c j =
     record {

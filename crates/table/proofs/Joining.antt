@@ -10,14 +10,14 @@ use lib.Bits.{bitOr, or-zero-r, or-self, or-lt, or-block, or-shifted-r}
 use lib.ListN.{length, set, length-set}
 use lib.Pow.{pow-lt}
 use lib.Seq.{ext-getD}
-use Rattle.table.specs.Words.{word, withFurther, withColumn, withColumns, BlockJoined, Joined}
+use Rattle.table.specs.Words.{word, withFurther, withColumn, withColumns, BlockJoined, ColumnJoined}
 use Rattle.table.specs.Words.{ColumnsJoined}
 use Rattle.table.proofs.Bits.{or-ge-left, with-below}
 use Rattle.table.proofs.Closing.{ClosedBelow, close-begun, close-more}
 use Rattle.filled.specs.Filled.{Filled}
 use Rattle.filled.proofs.Filled.{filled-none, filled-more, filled-moved, filled-then}
 use Rattle.table.proofs.Replacing.{filled-some, or-in-block}
-use Rattle.table.proofs.Replacing.{Passing, passing-more}
+use Rattle.table.proofs.Replacing.{Replacing, replacing-more}
 
 -- what the loop over a block knows: its first i words are joined
 pub record InBlock (start column i : ℕ) (before after : List ℕ) : Type 0 where
@@ -138,24 +138,24 @@ columns-more k a b before mid after within r t =
 
 -- the pass of a column, and that of the three lowest columns
 pub column-pass : (n k end column start : ℕ) (before mid after : List ℕ) → column ≡ 2 ^ k → start < end
-    → Passing n (suc k) end start (withColumn k (word before)) before mid → BlockJoined start column mid after
-    → Passing n (suc k) end (start + column + column) (withColumn k (word before)) before after
+    → Replacing n (suc k) end start (withColumn k (word before)) before mid → BlockJoined start column mid after
+    → Replacing n (suc k) end (start + column + column) (withColumn k (word before)) before after
 column-pass n k end column start before mid after c h p b =
-    passing-more n (suc k) end start (start + column + column) (withColumn k (word before)) (withColumn k (word mid))
+    replacing-more n (suc k) end start (start + column + column) (withColumn k (word before)) (withColumn k (word mid))
     before mid after h (omega (arith, two-pow-succ k)) p
     (block-joined k start (start + column + column) column mid after c (p .aligned) refl b)
     (column-same k start (word mid) (word before) (p .words .past))
 
 pub columns-pass : (n m end start : ℕ) (before mid after : List ℕ) → start < end
-    → Passing n m end start (withColumns m (word before)) before mid
+    → Replacing n m end start (withColumns m (word before)) before mid
     → ColumnsJoined start (start + 2 ^ m) m mid after
-    → Passing n m end (start + 2 ^ m) (withColumns m (word before)) before after
+    → Replacing n m end (start + 2 ^ m) (withColumns m (word before)) before after
 columns-pass n m end start before mid after h p r =
-    passing-more n m end start (start + 2 ^ m) (withColumns m (word before)) (withColumns m (word mid))
+    replacing-more n m end start (start + 2 ^ m) (withColumns m (word before)) (withColumns m (word mid))
     before mid after h refl p r (columns-same m start (word mid) (word before) (p .words .past))
 
 pub column-joined : (n k : ℕ) (before after : List ℕ) → Filled 0 (2 ^ n) (withColumn k (word before)) before after
-    → Joined n k before after
+    → ColumnJoined n k before after
 column-joined n k before after r =
     record {
       same-length = r .same-length;

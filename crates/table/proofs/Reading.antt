@@ -10,7 +10,7 @@ use lib.Pow.{pow-pos}
 use Rattle.columns.specs.Set.{bit, withoutOf}
 use Rattle.columns.proofs.Bits.{bit-and, bit-without-same, bit-without-other, without-some, bit-power-le}
 use Rattle.table.specs.Words.{word, Above, lackingOf, Read}
-use Rattle.table.proofs.Bits.{bit-lacking, bit-none, lowest, rest-without}
+use Rattle.table.proofs.Bits.{bit-lacking, bit-none, has-lowest, rest-without}
 
 -- right a is read for the members of x that are passed: those not in `left`
 pub record ReadBut (ws : List ℕ) (x own left a : ℕ) : Type 0 where
@@ -91,17 +91,17 @@ reading-passed ws x own left r k h i =
 -- the part of x that its lowest member left to pass is
 pub lowest-part : (x left : ℕ) → 0 < left → Above left x → left - bitAnd left (left - 1) ≤ x
 lowest-part x left h up =
-    let w = lowest left h in
+    let w = has-lowest left h in
     let e = w .1 .rest in
     omega (arith, bit-power-le x (w .0) (up (w .0) (w .1 .in-it)))
 
 pub rest-less : (left : ℕ) → 0 < left → bitAnd left (left - 1) < left
-rest-less left h = let w = lowest left h in let e = w .1 .rest in omega (arith, pow-pos (w .0))
+rest-less left h = let w = has-lowest left h in let e = w .1 .rest in omega (arith, pow-pos (w .0))
 
 pub reading-more : (ws : List ℕ) (x own left r : ℕ) → 0 < left → Reading ws x own left r
     → Reading ws x own (bitAnd left (left - 1)) (bitAnd r (word ws (x - (left - bitAnd left (left - 1)))))
 reading-more ws x own left r h d =
-    let w = lowest left h in
+    let w = has-lowest left h in
     let k = w .0 in
     let e = w .1 .rest in
     let i : bit left k ≡ 1 = w .1 .in-it in

@@ -33,7 +33,7 @@ block-fits n m a e l h =
     omega arith
 
 -- what a pass over the blocks knows: the words below `start`, where a block begins, are replaced
-pub record Passing (n m end start : ℕ) (f : ℕ → ℕ) (before after : List ℕ) : Type 0 where
+pub record Replacing (n m end start : ℕ) (f : ℕ → ℕ) (before after : List ℕ) : Type 0 where
   pub up-to : start ≤ end
   pub is-end : end ≡ 2 ^ n
   pub size-below : m ≤ n
@@ -42,9 +42,9 @@ pub record Passing (n m end start : ℕ) (f : ℕ → ℕ) (before after : List 
   pub aligned : start % 2 ^ m ≡ 0
   pub words : Filled 0 start f before after
 
-pub passing-begun : (n m end : ℕ) (f : ℕ → ℕ) (ws : List ℕ) → end ≡ 2 ^ n → m ≤ n → 2 ^ n ≤ length ws
-    → Passing n m end 0 f ws ws
-passing-begun n m end f ws e h l =
+pub replacing-begun : (n m end : ℕ) (f : ℕ → ℕ) (ws : List ℕ) → end ≡ 2 ^ n → m ≤ n → 2 ^ n ≤ length ws
+    → Replacing n m end 0 f ws ws
+replacing-begun n m end f ws e h l =
     record {
       up-to = omega arith;
       is-end = e;
@@ -55,9 +55,9 @@ passing-begun n m end f ws e h l =
       words = filled-none;
     }
 
-pub passing-fits : (n m end start : ℕ) (f : ℕ → ℕ) (before after : List ℕ) → start < end
-    → Passing n m end start f before after → (0 < 2 ^ m) × (start + 2 ^ m ≤ end) × (end ≤ length after)
-passing-fits n m end start f before after h p =
+pub replacing-fits : (n m end start : ℕ) (f : ℕ → ℕ) (before after : List ℕ) → start < end
+    → Replacing n m end start f before after → (0 < 2 ^ m) × (start + 2 ^ m ≤ end) × (end ≤ length after)
+replacing-fits n m end start f before after h p =
     let e = p .is-end in
     let l = p .enough in
     let s = p .same-length in
@@ -65,11 +65,11 @@ passing-fits n m end start f before after h p =
     (pow-pos m, omega arith, omega arith)
 
 -- the block at `start` replaced, by words that are the same from there on
-pub passing-more : (n m end start next : ℕ) (f g : ℕ → ℕ) (before mid after : List ℕ) → start < end
-    → next ≡ start + 2 ^ m → Passing n m end start f before mid → Filled start next g mid after
-    → ((y : ℕ) → start ≤ y → g y ≡ f y) → Passing n m end next f before after
-passing-more n m end start next f g before mid after h i p r same =
-    let b = passing-fits n m end start f before mid h p in
+pub replacing-more : (n m end start next : ℕ) (f g : ℕ → ℕ) (before mid after : List ℕ) → start < end
+    → next ≡ start + 2 ^ m → Replacing n m end start f before mid → Filled start next g mid after
+    → ((y : ℕ) → start ≤ y → g y ≡ f y) → Replacing n m end next f before after
+replacing-more n m end start next f g before mid after h i p r same =
+    let b = replacing-fits n m end start f before mid h p in
     record {
       up-to = omega arith;
       is-end = p .is-end;
@@ -82,9 +82,9 @@ passing-more n m end start next f g before mid after h i p r same =
           (λ y a c. same y a);
     }
 
-pub passing-done : (n m end start : ℕ) (f : ℕ → ℕ) (before after : List ℕ) → end ≤ start
-    → Passing n m end start f before after → Filled 0 (2 ^ n) f before after
-passing-done n m end start f before after h p =
+pub replacing-done : (n m end start : ℕ) (f : ℕ → ℕ) (before after : List ℕ) → end ≤ start
+    → Replacing n m end start f before after → Filled 0 (2 ^ n) f before after
+replacing-done n m end start f before after h p =
     let l = p .up-to in
     let e : start ≡ 2 ^ n = omega (arith, p .is-end) in
     filled-moved e (p .words)

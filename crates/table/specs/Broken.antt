@@ -1,5 +1,5 @@
 -- The table of broken rights of a view ("Agreement", and demand 2): which bits its words have after the scan over
--- pairs of rows, what they say once closed, and the listed rights of one left side as a number. Bit a stands for
+-- pairs of rows, what they say once closed, and the minimal rights of one left side as a number. Bit a stands for
 -- column a, and the bit above the last column for the row.
 use Prim.Native.Nat.{ℕ, suc, _-_, _^_, _≤_, _<_}
 use mathlib.Core.Path.{_≡_}

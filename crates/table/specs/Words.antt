@@ -42,7 +42,7 @@ abbrev pub ColumnsJoined : ℕ → ℕ → ℕ → List ℕ → List ℕ → Typ
 ColumnsJoined start end k before after = Filled start end (withColumns k (word before)) before after
 
 -- one column joined: each of the first 2 ^ n words has got the bits of the word at its left side with column k
-pub record Joined (n k : ℕ) (before after : List ℕ) : Type 0 where
+pub record ColumnJoined (n k : ℕ) (before after : List ℕ) : Type 0 where
   pub same-length : length after ≡ length before
   pub joined : (y : ℕ) → y < 2 ^ n → word after y ≡ bitOr (word before y) (word before (bitOr y (2 ^ k)))
   pub past : (y : ℕ) → 2 ^ n ≤ y → word after y ≡ word before y

@@ -8,7 +8,7 @@ ghost use mathlib.Core.Path.{_≡_};
 ghost use mathlib.Core.Logic.{_↔_};
 ghost use lib.ListN.{length};
 ghost use Rattle.columns.specs.Set.{bit};
-ghost use Rattle.table.specs.Words.{lackingOf, BlockJoined, ColumnsJoined, Joined, Closed, Read};
+ghost use Rattle.table.specs.Words.{lackingOf, BlockJoined, ColumnsJoined, ColumnJoined, Closed, Read};
 use bits::power;
 
 // Joins one block: each of the `column` words from `start` on gets the bits of the word that is `column` further on.
@@ -29,7 +29,7 @@ fn join_block(words: &mut [u32], start: usize, column: usize)
 // the left sides that differ in columns up to k only, those without column k come first.
 fn join_column(words: &mut [u32], n: u32, k: u32)
     requires { ⌜ (n < 32) × (2 ^ n ≤ length (now words)) × (k < n) ⌝ }
-    ensures { λ r. ⌜ Joined n k (now (words .entry)) (now (words .exit)) ⌝ }
+    ensures { λ r. ⌜ ColumnJoined n k (now (words .entry)) (now (words .exit)) ⌝ }
 {
     let end = power(n) as usize;
     let column = power(k) as usize;

@@ -11,8 +11,9 @@ use Rattle.columns.specs.Bound.{columnBound}
 use Rattle.model.specs.Bounds.{rowBound}
 use Rattle.model.specs.Bytes.{u16At, u32At}
 use Rattle.model.specs.Catalogue.{tableAt, columns, rows}
-use Rattle.climb.proofs.Grants.{Grants, accepted-grants}
-use Rattle.climb.proofs.Climb.{entry-within, head-within}
+use Rattle.model.specs.Check.{Accepted}
+use Rattle.model.proofs.Check.{accepted-rows}
+use Rattle.climb.proofs.Within.{entry-within, head-within}
 use Rattle.keys.proofs.Laying.{Laying, laying-begun, own-left, few-left, rows-within, laying-done, parent-lower, laying-next}
 use Rattle.keys.proofs.lay.Statement.{statement}
 use Rattle.keys.proofs.lay.Tie as tie
@@ -38,9 +39,8 @@ index-requires c κs = search needs
 own-rows-requires : tie.Need-own-rows-requires Inv-loop μ-loop
 own-rows-requires c κs =
     let a = c .before .before .before .before .before .args in
-    let h = c .before .before .before .before .before .pre in
-    let s = accepted-grants (now (a .b)) (h .0) in (
-      omega (arith, c .before .index .ensures, c .before .before .rows .ensures, s .long (a .t) (h .1 .0)),
+    let h = c .before .before .before .before .before .pre in (
+      omega (arith, c .before .index .ensures, c .before .before .rows .ensures, accepted-rows (now (a .b)) (h .0) (a .t) (h .1 .0)),
       length-replicate {A = ℕ} rowBound 0,
     )
 
@@ -52,12 +52,12 @@ loop-holds c =
     (c .before .before .index .ensures ∙ c .before .before .before .rows .ensures) (length-replicate {A = ℕ} rowBound 0) (h .1 .1 .1)
     (c .own-rows .ensures)
 
--- the bytes, and what they grant; the target's rows; and where the table stands and how many columns it has
+-- the bytes, accepted; the target's rows; and where the table stands and how many columns it has
 abbrev bytes : tie.At-loop Inv-loop μ-loop → List ℕ
 bytes c = now (c .before .before .before .before .before .before .before .args .b)
 
-grants : (c : tie.At-loop Inv-loop μ-loop) → Grants (bytes c)
-grants c = accepted-grants (bytes c) (c .before .before .before .before .before .before .before .pre .0)
+ok : (c : tie.At-loop Inv-loop μ-loop) → Accepted (bytes c)
+ok c = c .before .before .before .before .before .before .before .pre .0
 
 ends : (c : tie.At-loop Inv-loop μ-loop)
     → c .before .before .before .index .result ≡ rows (bytes c) (c .before .before .before .before .before .before .before .args .t)
@@ -69,7 +69,7 @@ entry c =
     omega (
       arith,
       c .before .before .before .before .before .trailer .ensures,
-      entry-within (bytes c) (grants c) (c .loop .at) (c .loop .inv .table),
+      entry-within (bytes c) (ok c) (c .loop .at) (c .loop .inv .table),
     )
 
 table : (c : tie.After-code-at Inv-loop μ-loop) → c .code-at .result ≡ tableAt (bytes (c .before)) (c .before .loop .at)
@@ -80,7 +80,7 @@ table c =
 
 head : (c : tie.After-code-at Inv-loop μ-loop) → c .code-at .result + 6 ≤ length (bytes (c .before))
 head c =
-    omega (arith, table c, head-within (bytes (c .before)) (grants (c .before)) (c .before .loop .at) (c .before .loop .inv .table))
+    omega (arith, table c, head-within (bytes (c .before)) (ok (c .before)) (c .before .loop .at) (c .before .loop .inv .table))
 
 own : (c : tie.After-index2 Inv-loop μ-loop)
     → c .index2 .result ≡ columns (bytes (c .before .before .before)) (c .before .before .before .loop .at)
@@ -110,17 +110,17 @@ index-requires-2 c κs = search needs
 left : (c : tie.After-index2 Inv-loop μ-loop) → c .index2 .result ≤ c .before .before .before .loop .above
 left c =
     let l = c .before .before .before in
-    own-left (bytes l) (grants l) (l .loop .inv) (table (c .before .before)) (own c)
+    own-left (bytes l) (ok l) (l .loop .inv) (table (c .before .before)) (own c)
 
 few : (c : tie.After-index2 Inv-loop μ-loop) → c .before .before .before .loop .above ≤ columnBound
 few c =
     let l = c .before .before .before in
-    few-left (bytes l) (grants l) (l .loop .inv) (table (c .before .before)) (own c)
+    few-left (bytes l) (ok l) (l .loop .inv) (table (c .before .before)) (own c)
 
 short : (c : tie.At-loop Inv-loop μ-loop) → c .before .before .before .index .result ≤ rowBound
 short c =
     let h = c .before .before .before .before .before .before .before .pre in
-    omega (arith, ends c, grants c .long (c .before .before .before .before .before .before .before .args .t) (h .1 .0))
+    omega (arith, ends c, accepted-rows (bytes c) (ok c) (c .before .before .before .before .before .before .before .args .t) (h .1 .0))
 
 within : (c : tie.After-index2 Inv-loop μ-loop) (q : ℕ) → q < c .before .before .before .before .before .before .index .result
     → c .before .before .code-at .result + 6 + getD (c .before .before .before .loop .reached) q 0 * (2 + 4 * c .index2 .result)
@@ -128,7 +128,7 @@ within : (c : tie.After-index2 Inv-loop μ-loop) (q : ℕ) → q < c .before .be
     ≤ length (bytes (c .before .before .before))
 within c q h =
     let l = c .before .before .before in
-    rows-within (bytes l) (grants l) (l .loop .inv) (table (c .before .before)) (own c) q (omega (arith, ends l))
+    rows-within (bytes l) (ok l) (l .loop .inv) (table (c .before .before)) (own c) q (omega (arith, ends l))
 
 sub-above : tie.Need-sub-above Inv-loop μ-loop
 sub-above c = omega (arith, left c)
@@ -155,7 +155,7 @@ returns c =
     let i = c .before .before .before .before .before in
     let l = i .before .before .before in (
       c .before .before .lay-table .ensures .same-length ∙ l .loop .inv .long,
-      laying-done (bytes l) (grants l) (l .loop .inv) (table (i .before .before)) (own i) _ _ (ends l) (c .before .before .lay-table .ensures)
+      laying-done (bytes l) (ok l) (l .loop .inv) (table (i .before .before)) (own i) _ _ (ends l) (c .before .before .lay-table .ensures)
           (ap (λ (x : ℕ). l .before .before .before .before .before .before .before .args .set % x) (sym (c .before .power .ensures))
           ∙ c .if1 .taken),
     )
@@ -199,7 +199,7 @@ loop-less c =
     let e = c .before .before .before .before in
     let i = e .before .before .before .before .before in
     let l = i .before .before .before in
-    parent-lower (bytes l) (grants l) (l .loop .inv) (table (i .before .before)) (own i) _ (c .index3 .ensures ∙ c .before .short-at2 .ensures)
+    parent-lower (bytes l) (ok l) (l .loop .inv) (table (i .before .before)) (own i) _ (c .index3 .ensures ∙ c .before .short-at2 .ensures)
     (some e)
 
 loop-again : tie.Need-loop-again Inv-loop μ-loop
@@ -207,7 +207,7 @@ loop-again c =
     let e = c .before .before .before .before in
     let i = e .before .before .before .before .before in
     let l = i .before .before .before in
-    laying-next (bytes l) (grants l) (l .loop .inv) (table (i .before .before)) (own i) _ _ _ _ (ends l) (e .before .before .lay-table .ensures)
+    laying-next (bytes l) (ok l) (l .loop .inv) (table (i .before .before)) (own i) _ _ _ _ (ends l) (e .before .before .lay-table .ensures)
     (some e) (c .index3 .ensures ∙ c .before .short-at2 .ensures) (c .before .before .parent-rows .ensures)
 
 pub lay-spec : {M : Type 1} → statement M

@@ -7,7 +7,7 @@ use borrow.Author.Needs.{needs}
 use denote.Ref.{now}
 use Rattle.model.specs.Bounds.{tableBound, noParent}
 use Rattle.model.specs.Catalogue.{visible, visibleIn}
-use Rattle.layout.proofs.Where.{climb-ends, climb-goes-on, climb-over}
+use Rattle.model.proofs.Climb.{climb-ends, climb-goes-on, climb-over}
 use Rattle.layout.proofs.visible.Statement.{statement}
 use Rattle.layout.proofs.visible.Tie as tie
 

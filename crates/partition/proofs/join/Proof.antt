@@ -9,19 +9,19 @@ use Rattle.leaders.specs.Keys.{keyAt}
 use Rattle.filled.specs.Filled.{Filled}
 use Rattle.filled.proofs.Below.{below-more}
 use Rattle.filled.proofs.Filled.{filled-none, filled-more, filled-first}
-use Rattle.partition.specs.Partition.{keyBound, wordOf}
+use Rattle.partition.specs.Partition.{keyBound, leaderWord}
 use Rattle.partition.proofs.Leading.{led-joined}
 use Rattle.partition.proofs.join.Statement.{statement}
 use Rattle.partition.proofs.join.Tie as tie
 
 -- the words of the rows below q are made, and their keys are short
-record Words (keys : List ℕ) (k end : ℕ) (leaders before ws : List ℕ) (q : ℕ) : Type 0 where
+record WordsBelow (keys : List ℕ) (k end : ℕ) (leaders before ws : List ℕ) (q : ℕ) : Type 0 where
   pub within : q ≤ end
-  pub words : Filled 0 q (λ i. wordOf (getD leaders i 0) (keyAt keys k i)) before ws
+  pub words : Filled 0 q (λ i. leaderWord (getD leaders i 0) (keyAt keys k i)) before ws
   pub small : (i : ℕ) → i < q → keyAt keys k i < keyBound
 
 abbrev Inv-loop : tie.InvT-loop
-Inv-loop keys k end leaders at words₀ q₀ words q = Words keys k end leaders words₀ words q
+Inv-loop keys k end leaders at words₀ q₀ words q = WordsBelow keys k end leaders words₀ words q
 
 abbrev μ-loop : tie.MeasureT-loop
 μ-loop keys k end leaders at words₀ q₀ words q = end - q

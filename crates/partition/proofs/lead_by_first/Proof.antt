@@ -14,12 +14,12 @@ use Rattle.partition.proofs.lead_by_first.Statement.{statement}
 use Rattle.partition.proofs.lead_by_first.Tie as tie
 
 -- row 0 leads the rows below q, and the others of them follow it
-record First (end : ℕ) (before leaders : List ℕ) (followers q : ℕ) : Type 0 where
+record LedByFirst (end : ℕ) (before leaders : List ℕ) (followers q : ℕ) : Type 0 where
   pub within : q ≤ end
   pub others : followers ≡ q - 1
   pub zeros : Filled 0 q (λ i. 0) before leaders
 
-done : (end : ℕ) (before leaders : List ℕ) (followers q : ℕ) → First end before leaders followers q → length before ≡ rowBound → end ≤ q
+done : (end : ℕ) (before leaders : List ℕ) (followers q : ℕ) → LedByFirst end before leaders followers q → length before ≡ rowBound → end ≤ q
     → (keys : List ℕ) (x : ℕ) → Led keys 0 end x leaders followers
 done end before leaders followers q f long h keys x =
     subst (Led keys 0 end x leaders) others
@@ -29,7 +29,7 @@ done end before leaders followers q f long h keys x =
     others = omega (arith, f .within, f .others)
 
 abbrev Inv-loop : tie.InvT-loop
-Inv-loop end leaders₀ followers₀ q₀ leaders followers q = First end leaders₀ leaders followers q
+Inv-loop end leaders₀ followers₀ q₀ leaders followers q = LedByFirst end leaders₀ leaders followers q
 
 abbrev μ-loop : tie.MeasureT-loop
 μ-loop end leaders₀ followers₀ q₀ leaders followers q = end - q

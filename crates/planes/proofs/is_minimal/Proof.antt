@@ -4,12 +4,12 @@ use native.Mathlib.Omega.{arith}
 use lib.Bits.{and-le-l}
 use borrow.Author.Needs.{needs}
 use Rattle.table.proofs.Reading.{lowest-part, rest-less}
-use Rattle.planes.proofs.Members.{Passing, passing-begun, passing-more, passing-failed, passing-done, not-narrow}
+use Rattle.planes.proofs.Members.{NarrowSoFar, narrow-begun, narrow-more, narrow-failed, narrow-done, not-narrow}
 use Rattle.planes.proofs.is_minimal.Statement.{statement}
 use Rattle.planes.proofs.is_minimal.Tie as tie
 
 abbrev Inv-loop : tie.InvT-loop
-Inv-loop plane x a rest₀ rest = Passing plane x a rest
+Inv-loop plane x a rest₀ rest = NarrowSoFar plane x a rest
 
 abbrev μ-loop : tie.MeasureT-loop
 μ-loop plane x a rest₀ rest = rest
@@ -27,7 +27,7 @@ returns-2 : tie.Need-returns-2 Inv-loop μ-loop
 returns-2 c = not-narrow _ _ _ (λ f. let g = f .outside in omega arith)
 
 loop-holds : tie.Need-loop-holds Inv-loop μ-loop
-loop-holds c = passing-begun _ _ _ (omega arith) (omega arith)
+loop-holds c = narrow-begun _ _ _ (omega arith) (omega arith)
 
 sub-above : tie.Need-sub-above Inv-loop μ-loop
 sub-above c = search needs
@@ -43,16 +43,16 @@ bit-at-requires-2 c κs = search needs
 
 returns-3 : tie.Need-returns-3 Inv-loop μ-loop
 returns-3 c =
-    not-narrow _ _ _ (passing-failed _ _ _ _ (omega arith) (c .before .before .before .loop .inv) (omega arith))
+    not-narrow _ _ _ (narrow-failed _ _ _ _ (omega arith) (c .before .before .before .loop .inv) (omega arith))
 
 loop-less : tie.Need-loop-less Inv-loop μ-loop
 loop-less c = rest-less _ (omega arith)
 
 loop-again : tie.Need-loop-again Inv-loop μ-loop
-loop-again c = passing-more _ _ _ _ (omega arith) (c .before .before .before .loop .inv) (omega arith)
+loop-again c = narrow-more _ _ _ _ (omega arith) (c .before .before .before .loop .inv) (omega arith)
 
 returns-4 : tie.Need-returns-4 Inv-loop μ-loop
-returns-4 c = (λ e. passing-done _ _ _ _ (omega arith) (c .before .loop .inv), λ f. refl)
+returns-4 c = (λ e. narrow-done _ _ _ _ (omega arith) (c .before .loop .inv), λ f. refl)
 
 pub is-minimal-spec : {M : Type 1} → statement M
 is-minimal-spec =

@@ -9,7 +9,7 @@ use denote.Ref.{now}
 use borrow.Author.Needs.{needs}
 use Rattle.model.specs.Catalogue.{visible, inherited}
 use Rattle.model.proofs.Check.{accepted-visible}
-use Rattle.model.proofs.Rights.{inherited-own}
+use Rattle.model.proofs.Climb.{inherited-own}
 use Rattle.rights.proofs.own_rights.Statement.{statement}
 use Rattle.rights.proofs.own_rights.Tie as tie
 

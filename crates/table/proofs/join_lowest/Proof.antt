@@ -5,12 +5,12 @@ use native.Mathlib.Omega.{arith}
 use borrow.Author.Needs.{needs}
 use Rattle.table.specs.Words.{word, withColumns}
 use Rattle.table.proofs.Joining.{columns-none, columns-pass}
-use Rattle.table.proofs.Replacing.{Passing, passing-begun, passing-fits, passing-done}
+use Rattle.table.proofs.Replacing.{Replacing, replacing-begun, replacing-fits, replacing-done}
 use Rattle.table.proofs.join_lowest.Statement.{statement}
 use Rattle.table.proofs.join_lowest.Tie as tie
 
 abbrev Inv-loop : tie.InvT-loop
-Inv-loop words₀ n end start₀ words start = Passing n 3 end start (withColumns 3 (word words₀)) words₀ words
+Inv-loop words₀ n end start₀ words start = Replacing n 3 end start (withColumns 3 (word words₀)) words₀ words
 
 abbrev μ-loop : tie.MeasureT-loop
 μ-loop words₀ n end start₀ words start = end - start
@@ -25,16 +25,16 @@ cast-end : tie.Need-cast-end Inv-loop μ-loop
 cast-end c = search needs
 
 loop-holds : tie.Need-loop-holds Inv-loop μ-loop
-loop-holds c = passing-begun _ _ _ _ _ (search needs) (search needs) (search needs)
+loop-holds c = replacing-begun _ _ _ _ _ (search needs) (search needs) (search needs)
 
 join-eight-requires : tie.Need-join-eight-requires Inv-loop μ-loop
 join-eight-requires c κs =
-    let h = passing-fits _ _ _ _ _ _ _ (omega arith) (c .before .before .loop .inv) in
+    let h = replacing-fits _ _ _ _ _ _ _ (omega arith) (c .before .before .loop .inv) in
     search needs
 
 add-start : tie.Need-add-start Inv-loop μ-loop
 add-start c =
-    let h = passing-fits _ _ _ _ _ _ _ (omega arith) (c .before .before .before .before .before .loop .inv) in
+    let h = replacing-fits _ _ _ _ _ _ _ (omega arith) (c .before .before .before .before .before .loop .inv) in
     search needs
 
 loop-less : tie.Need-loop-less Inv-loop μ-loop
@@ -49,7 +49,7 @@ same-length : tie.Need-same-length Inv-loop μ-loop
 same-length c = search needs
 
 returns-2 : tie.Need-returns-2 Inv-loop μ-loop
-returns-2 c = (search needs, passing-done _ _ _ _ _ _ _ (omega arith) (c .before .loop .inv))
+returns-2 c = (search needs, replacing-done _ _ _ _ _ _ _ (omega arith) (c .before .loop .inv))
 
 pub join-lowest-spec : {M : Type 1} → statement M
 join-lowest-spec =

@@ -8,12 +8,12 @@ use Rattle.columns.specs.Set.{setOf}
 use Rattle.columns.specs.Order.{atOf}
 use Rattle.columns.specs.declared.SetOrNone.the-variants.{Set}
 use Rattle.columns.proofs.Test.{is-if-le, is-if-not-le}
-use Rattle.columns.proofs.Unrank.{Passed, passed-none, passed-more, passed-found, passed-all}
+use Rattle.columns.proofs.Unrank.{SizesPassed, passed-none, passed-more, passed-found, passed-all}
 use Rattle.columns.proofs.ColumnSet.at.Statement.{statement}
 use Rattle.columns.proofs.ColumnSet.at.Tie as tie
 
 abbrev Inv-loop : tie.InvT-loop
-Inv-loop n index k₀ left₀ k left = (n ≤ columnBound) × Passed n index k left
+Inv-loop n index k₀ left₀ k left = (n ≤ columnBound) × SizesPassed n index k left
 
 abbrev μ-loop : tie.MeasureT-loop
 μ-loop n index k₀ left₀ k left = suc n - k

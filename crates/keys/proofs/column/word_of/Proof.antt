@@ -1,7 +1,7 @@
 -- `keys::column::word_of` meets its contract.
 use mathlib.Core.Path.{refl}
 use Rattle.columns.proofs.Test.{is-if-eq, is-if-ne}
-use Rattle.keys.specs.Column.{wordOf}
+use Rattle.keys.specs.Column.{cellWord}
 use borrow.Author.Needs.{needs}
 use Rattle.keys.proofs.column.word_of.Statement.{statement}
 use Rattle.keys.proofs.column.word_of.Tie as tie
@@ -16,11 +16,11 @@ add-result-2 : tie.Need-add-result-2
 add-result-2 c = search needs
 
 returns : tie.Need-returns
-unfolding wordOf
+unfolding cellWord
 returns c = is-if-eq _ (c .if1 .taken) refl
 
 returns-2 : tie.Need-returns-2
-unfolding wordOf
+unfolding cellWord
 returns-2 c = is-if-ne _ (c .if1 .left) refl
 
 pub word-of-spec : {M : Type 1} → statement M

@@ -2,15 +2,15 @@
 use Prim.Native.Nat.{_-_}
 use native.Mathlib.Omega.{arith}
 use mathlib.Core.Path.{_∙_}
-use Rattle.lines.specs.Lines.{Over, partAt}
+use Rattle.lines.specs.Lines.{LineOf, partAt}
 use Rattle.lines.specs.Compares.{ComparesEight}
-use Rattle.lines.proofs.Lines.{over-begun, over-more, over-done, eight-inside, eight-part}
+use Rattle.lines.proofs.Lines.{line-begun, line-more, line-done, eight-inside, eight-part}
 use borrow.Author.Needs.{needs}
 use Rattle.lines.proofs.part.compare_eight.Statement.{statement}
 use Rattle.lines.proofs.part.compare_eight.Tie as tie
 
 abbrev Inv-loop : tie.InvT-loop
-Inv-loop bytes few x v end part₀ e q₀ part q = ComparesEight bytes few x v e × Over (partAt bytes few x v) x q part
+Inv-loop bytes few x v end part₀ e q₀ part q = ComparesEight bytes few x v e × LineOf (partAt bytes few x v) x q part
 
 abbrev μ-loop : tie.MeasureT-loop
 μ-loop bytes few x v end part₀ e q₀ part q = end - q
@@ -22,7 +22,7 @@ add-q : tie.Need-add-q Inv-loop μ-loop
 add-q c = search needs
 
 loop-holds : tie.Need-loop-holds Inv-loop μ-loop
-loop-holds c = (c .eight-of .ensures, over-begun _ _ _ (c .before .pre .3))
+loop-holds c = (c .eight-of .ensures, line-begun _ _ _ (c .before .pre .3))
 
 agreeing-eight-requires : tie.Need-agreeing-eight-requires Inv-loop μ-loop
 agreeing-eight-requires c κs = eight-inside (c .before .loop .inv .0) _ (omega arith)
@@ -37,10 +37,10 @@ loop-less : tie.Need-loop-less Inv-loop μ-loop
 loop-less c = search needs
 
 loop-again : tie.Need-loop-again Inv-loop μ-loop
-loop-again c = let l = c .before .before .loop .inv in (l .0, over-more _ (omega arith) (c .agreeing-eight .ensures ∙ eight-part (l .0) _) (l .1))
+loop-again c = let l = c .before .before .loop .inv in (l .0, line-more _ (omega arith) (c .agreeing-eight .ensures ∙ eight-part (l .0) _) (l .1))
 
 returns : tie.Need-returns Inv-loop μ-loop
-returns c = over-done (omega arith) (c .before .loop .inv .1)
+returns c = line-done (omega arith) (c .before .loop .inv .1)
 
 pub compare-eight-spec : {M : Type 1} → statement M
 compare-eight-spec =

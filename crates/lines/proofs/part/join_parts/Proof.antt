@@ -2,14 +2,14 @@
 use Prim.Native.Nat.{ℕ, _+_, _-_, _*_, _<_}
 use mathlib.Core.Path.{ap₂}
 use native.Mathlib.Omega.{arith}
-use Rattle.lines.specs.Lines.{Over, joinedAt}
-use Rattle.lines.proofs.Lines.{weighted-fits, over-begun, over-more, over-done}
+use Rattle.lines.specs.Lines.{LineOf, joinedAt}
+use Rattle.lines.proofs.Lines.{weighted-fits, line-begun, line-more, line-done}
 use borrow.Author.Needs.{needs}
 use Rattle.lines.proofs.part.join_parts.Statement.{statement}
 use Rattle.lines.proofs.part.join_parts.Tie as tie
 
 abbrev Inv-loop : tie.InvT-loop
-Inv-loop x end low high weight line₀ q₀ line q = Over (joinedAt weight low high) x q line
+Inv-loop x end low high weight line₀ q₀ line q = LineOf (joinedAt weight low high) x q line
 
 abbrev μ-loop : tie.MeasureT-loop
 μ-loop x end low high weight line₀ q₀ line q = end - q
@@ -18,7 +18,7 @@ add-q : tie.Need-add-q Inv-loop μ-loop
 add-q c = search needs
 
 loop-holds : tie.Need-loop-holds Inv-loop μ-loop
-loop-holds c = over-begun _ _ _ (c .pre .2)
+loop-holds c = line-begun _ _ _ (c .pre .2)
 
 element-copy-out-wide : tie.Need-element-copy-out-wide Inv-loop μ-loop
 element-copy-out-wide c = search needs
@@ -57,10 +57,10 @@ loop-less : tie.Need-loop-less Inv-loop μ-loop
 loop-less c = search needs
 
 loop-again : tie.Need-loop-again Inv-loop μ-loop
-loop-again c = over-more _ (omega arith) (ap₂ (λ (a b : ℕ). a + c .before .before .before .before .before .before .args .weight * b) (c .before .before .wide .ensures .0) (c .wide2 .ensures .0)) (c .before .before .before .before .before .loop .inv)
+loop-again c = line-more _ (omega arith) (ap₂ (λ (a b : ℕ). a + c .before .before .before .before .before .before .args .weight * b) (c .before .before .wide .ensures .0) (c .wide2 .ensures .0)) (c .before .before .before .before .before .loop .inv)
 
 returns : tie.Need-returns Inv-loop μ-loop
-returns c = over-done (omega arith) (c .before .loop .inv)
+returns c = line-done (omega arith) (c .before .loop .inv)
 
 pub join-parts-spec : {M : Type 1} → statement M
 join-parts-spec =

@@ -8,14 +8,14 @@ use lib.Dec.{eqb}
 use Rattle.columns.specs.Test.{pick}
 use Rattle.leaders.specs.Keys.{keyAt}
 use lib.Pow.{pow-lt}
-use Rattle.lines.specs.Lines.{lineMembers, Over, withMember}
-use Rattle.lines.proofs.Lines.{over-begun, over-more, over-done, Ahead, ahead-all, ahead-less}
+use Rattle.lines.specs.Lines.{lineMembers, LineOf, withMember}
+use Rattle.lines.proofs.Lines.{line-begun, line-more, line-done, Ahead, ahead-all, ahead-less}
 use borrow.Author.Needs.{needs}
 use Rattle.lines.proofs.wide.add_member.Statement.{statement}
 use Rattle.lines.proofs.wide.add_member.Tie as tie
 
 abbrev Inv-loop : tie.InvT-loop
-Inv-loop keys k x end line₀ at own bit q₀ line q = Over (withMember keys k x line₀) x q line × Ahead q end line₀ line
+Inv-loop keys k x end line₀ at own bit q₀ line q = LineOf (withMember keys k x line₀) x q line × Ahead q end line₀ line
 
 abbrev μ-loop : tie.MeasureT-loop
 μ-loop keys k x end line₀ at own bit q₀ line q = end - q
@@ -42,7 +42,7 @@ add-q : tie.Need-add-q Inv-loop μ-loop
 add-q c = search needs
 
 loop-holds : tie.Need-loop-holds Inv-loop μ-loop
-loop-holds c = (over-begun _ _ _ (c .before .before .pre .3), ahead-all _ _ _)
+loop-holds c = (line-begun _ _ _ (c .before .before .pre .3), ahead-all _ _ _)
 
 mul-line : tie.Need-mul-line Inv-loop μ-loop
 mul-line c = search needs
@@ -78,7 +78,7 @@ loop-again : tie.Need-loop-again Inv-loop μ-loop
 loop-again c =
     let l = c .before .before .before .before .loop in
     let a = c .before .before .before .before .before .before .before .args in (
-      over-more _ (omega arith)
+      line-more _ (omega arith)
           (ap₂ bitOr (l .inv .1 .as-was (l .q) (le-refl _) (omega arith))
           (c .same-key .ensures ∙ ap (λ (w : ℕ). pick (eqb (keyAt (a .keys .now) (a .k) (a .x)) (keyAt (a .keys .now) (a .k) (l .q))) w 0) (c .before .before .before .before .before .power .ensures)))
           (l .inv .0),
@@ -86,7 +86,7 @@ loop-again c =
     )
 
 returns : tie.Need-returns Inv-loop μ-loop
-returns c = over-done (omega arith) (c .before .loop .inv .0)
+returns c = line-done (omega arith) (c .before .loop .inv .0)
 
 pub add-member-spec : {M : Type 1} → statement M
 add-member-spec =

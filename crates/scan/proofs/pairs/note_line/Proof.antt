@@ -2,14 +2,14 @@
 use Prim.Native.Nat.{_-_, _≤_}
 use mathlib.Core.Path.{_∙_}
 use native.Mathlib.Omega.{arith}
-use Rattle.scan.specs.Seen.{Noted}
+use Rattle.scan.specs.SeenSets.{LineNoted}
 use Rattle.scan.proofs.Seeing.{noted-none, noted-more, noted-all}
 use borrow.Author.Needs.{needs}
 use Rattle.scan.proofs.pairs.note_line.Statement.{statement}
 use Rattle.scan.proofs.pairs.note_line.Tie as tie
 
 abbrev Inv-loop : tie.InvT-loop
-Inv-loop seen₀ line from end q₀ seen q = (from ≤ q) × (q ≤ end) × Noted line from q seen₀ seen
+Inv-loop seen₀ line from end q₀ seen q = (from ≤ q) × (q ≤ end) × LineNoted line from q seen₀ seen
 
 abbrev μ-loop : tie.MeasureT-loop
 μ-loop seen₀ line from end q₀ seen q = end - q

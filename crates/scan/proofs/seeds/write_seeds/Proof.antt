@@ -6,7 +6,7 @@ use lib.ListN.{length}
 use Rattle.planes.specs.Bits.{planeWord}
 use Rattle.filled.specs.Filled.{Filled}
 use Rattle.filled.proofs.Filled.{filled-none, filled-more, filled-moved}
-use Rattle.scan.specs.Seen.{seenAt}
+use Rattle.scan.specs.SeenSets.{seenAt}
 use Rattle.scan.proofs.Writing.{seed-inside}
 use Rattle.scan.proofs.seeds.write_seeds.Statement.{statement}
 use Rattle.scan.proofs.seeds.write_seeds.Tie as tie

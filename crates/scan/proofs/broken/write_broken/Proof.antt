@@ -1,17 +1,17 @@
--- `scan::note_broken` meets its contract. The invariant: the words below s are written.
+-- `scan::write_broken` meets its contract. The invariant: the words below s are written.
 use Prim.Native.Nat.{_-_, _≤_, _<_}
 use native.Mathlib.Omega.{arith}
 use borrow.Author.Needs.{needs}
 use lib.ListN.{length}
 use Rattle.filled.specs.Filled.{Filled}
 use Rattle.filled.proofs.Filled.{filled-none, filled-more, filled-moved}
-use Rattle.scan.specs.Seen.{notedWord}
-use Rattle.scan.proofs.Writing.{power-some, set-inside, set-fits, noted-is}
-use Rattle.scan.proofs.broken.note_broken.Statement.{statement}
-use Rattle.scan.proofs.broken.note_broken.Tie as tie
+use Rattle.scan.specs.SeenSets.{brokenWord}
+use Rattle.scan.proofs.Writing.{power-some, set-inside, set-fits, broken-is}
+use Rattle.scan.proofs.broken.write_broken.Statement.{statement}
+use Rattle.scan.proofs.broken.write_broken.Tie as tie
 
 abbrev Inv-loop : tie.InvT-loop
-Inv-loop seen n words₀ all end s₀ words s = (s ≤ end) × Filled 0 s (notedWord seen n) words₀ words
+Inv-loop seen n words₀ all end s₀ words s = (s ≤ end) × Filled 0 s (brokenWord seen n) words₀ words
 
 abbrev μ-loop : tie.MeasureT-loop
 μ-loop seen n words₀ all end s₀ words s = end - s
@@ -68,7 +68,7 @@ loop-again c =
     let h = c .before .before .before .loop .inv .1 in (
       omega arith,
       filled-more h (omega arith) (omega arith) (omega (arith, within c, h .same-length))
-          (noted-is (c .before .before .before .before .before .before .before .args .seen .now) _ (c .before .before .before .loop .s) _ _ (c .before .before .before .before .before .power .ensures) (c .if-seen .ensures)),
+          (broken-is (c .before .before .before .before .before .before .before .args .seen .now) _ (c .before .before .before .loop .s) _ _ (c .before .before .before .before .before .power .ensures) (c .if-seen .ensures)),
     )
 
 same-length : tie.Need-same-length Inv-loop μ-loop
@@ -77,8 +77,8 @@ same-length c = c .before .loop .inv .1 .same-length
 returns : tie.Need-returns Inv-loop μ-loop
 returns c = filled-moved (omega (arith, c .before .loop .inv .0, c .before .before .power2 .ensures)) (c .before .loop .inv .1)
 
-pub note-broken-spec : {M : Type 1} → statement M
-note-broken-spec =
+pub write-broken-spec : {M : Type 1} → statement M
+write-broken-spec =
     tie.close
     (tie.spec
     Inv-loop
