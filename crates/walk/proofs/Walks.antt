@@ -222,13 +222,27 @@ module _ (l : Listing) (w : Walk) (nothing : w .pending ≡ 0) where
         budget = some;
       }
 
-  -- passing the set of the other is passing the set of the one, if it is the same set
-  pub moved-passes : (held : Held) (own : ℕ) (r : Reached) (words : List ℕ)
-      → Passes l (movedTo w (w .target) (w .left) (w .members) held own) r words → Passes l w r words
-  moved-passes held own (At v) words (g, s, k, h) =
-      let same = moved-same (w .target) (w .left) (w .members) held own in
+-- a walk that is to pass its set, with the words made ready for its target: passing the set of the one is passing that of the other
+module _ (l : Listing) (w : Walk) (words : List ℕ) (f : Fresh l w words) {v : Walk} {held : Held} {own : ℕ}
+    (is : v ≡ movedTo w (w .target) (w .left) (w .members) held own) where
+  pub entered-fresh : (after : List ℕ) → length after ≡ length words → Fresh l v after
+  entered-fresh after same =
+      subst (λ (u : Walk). Fresh l u after) (sym is)
+      (moved-fresh l w (f .pending) (w .target) (w .left) (w .members) held own words after (f .sound) same (f .budget)
+      (f .stands) (f .sound .members))
+
+  pub entered-ready : {after : List ℕ} → Ready l (w .target) held own after → Ready l (v .target) (v .held) (v .own) after
+  entered-ready {after} ready = subst (λ (u : Walk). Ready l (u .target) (u .held) (u .own) after) (sym is) ready
+
+  moved-passes : (r : Reached) (after : List ℕ)
+      → Passes l (movedTo w (w .target) (w .left) (w .members) held own) r after → Passes l w r after
+  moved-passes (At u) after (g, s, k, h) =
+      let same = moved-same l w (f .pending) (w .target) (w .left) (w .members) held own in
       (g, record { put = s .put ∙ same .put; reply = s .reply ∙ same .reply }, k, h)
-  moved-passes held own Stop words h = h
+  moved-passes Stop after h = h
+
+  pub entered-passes : (r : Reached) (after : List ℕ) → Passes l v r after → Passes l w r after
+  entered-passes r after h = moved-passes r after (subst (λ (u : Walk). Passes l u r after) is h)
 
 -- a walk whose set is passed, and nothing of it is pending
 module _ (l : Listing) (w : Walk) (words : List ℕ) (g : Good l w words) (nothing : w .pending ≡ 0) where

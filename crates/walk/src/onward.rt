@@ -57,7 +57,9 @@ pub fn pass_first(cat: &[u8], w: Walk, work: &mut [u32]) -> Reached
     }
     let entered = rights::prepare(cat, w.target, work);
     let v = entering(w, w.target, w.left, w.members, entered);
-    pass(cat, v, work)
+    let held = v.held;
+    let mask = rights::rights(cat, v.target, v.members, v.left, held, v.own, work);
+    passed(v, mask)
 }
 
 // The walk at the next set: of the same target, or the empty set of the next target.

@@ -1,12 +1,10 @@
 -- `walk::pass_first` meets its contract.
-use mathlib.Core.Path.{sym, subst}
+use mathlib.Core.Path.{refl}
 use native.Mathlib.Omega.{arith}
 use denote.Ref.{now}
 use Rattle.model.specs.Listing.{ordinary}
-use Rattle.passing.specs.declared.Walk.{Walk}
-use Rattle.rights.specs.Ready.{Ready}
-use Rattle.walk.specs.Walks.{Fresh, Passes}
-use Rattle.walk.proofs.Walks.{fresh-target, fresh-left, fresh-passable, passes-by, moved-fresh, moved-passes}
+use Rattle.walk.proofs.Walks.{fresh-target, fresh-left, fresh-inside, fresh-passable, passes-by}
+use Rattle.walk.proofs.Walks.{entered-fresh, entered-ready, entered-passes}
 use borrow.Author.Needs.{needs}
 use Rattle.walk.proofs.onward.pass_first.Statement.{statement}
 use Rattle.walk.proofs.onward.pass_first.Tie as tie
@@ -47,35 +45,46 @@ prepare-requires c κs =
 entering-requires : tie.Need-entering-requires
 entering-requires c κs = search needs
 
--- the walk with the words made ready
-pass-requires : tie.Need-pass-requires
-pass-requires c κs =
+rights-requires : tie.Need-rights-requires
+rights-requires c κs =
     let s = c .before .before .before .before .before .before .before .before .before .before in
     let l = ordinary (now (s .args .cat)) in
-    let w = s .args .w in
-    let f = s .pre .1 in
+    let v = c .before .entering .result in
     let p = c .before .before .before .before .prepare in
-    let e = sym (c .before .entering .ensures) in (
+    let e = entered-fresh l (s .args .w) (now (s .args .work)) (s .pre .1) (c .before .entering .ensures) in
+    let f = e (now (s .args .work)) refl in (
       s .pre .0,
       (
-        subst (λ (v : Walk). Fresh l v (p .last .1 .1 .0)) e
-            (moved-fresh l w (f .pending) _ _ _ _ _ (now (s .args .work)) (p .last .1 .1 .0) (f .sound) (search needs) (f .budget)
-            (f .stands) (f .sound .members)),
-        subst (λ (v : Walk). Ready l (v .target) (v .held) (v .own) (p .last .1 .1 .0)) e (p .ensures),
+        fresh-target l v (now (s .args .work)) f,
+        (
+          (f .sound .members, fresh-inside l v (now (s .args .work)) f),
+          entered-ready l (s .args .w) (now (s .args .work)) (s .pre .1) (c .before .entering .ensures) (p .ensures),
+        ),
       ),
     )
+
+passed-requires-2 : tie.Need-passed-requires-2
+passed-requires-2 c κs =
+    let s = c .before .before .before .before .before .before .before .before .before .before .before .before .before in
+    let l = ordinary (now (s .args .cat)) in
+    let e = c .before .before .before .before .entering in
+    fresh-passable l (e .result) (now (s .args .work))
+    (entered-fresh l (s .args .w) (now (s .args .work)) (s .pre .1) (e .ensures) (now (s .args .work)) refl) _
+    (c .before .before .rights .ensures .0)
 
 same-length-2 : tie.Need-same-length-2
 same-length-2 c = search needs
 
 returns-2 : tie.Need-returns-2
 returns-2 c =
-    let s = c .before .before .before .before .before .before .before .before .before .before .before .before .before in
+    let s = c .before .before .before .before .before .before .before .before .before .before .before .before .before .before in
     let l = ordinary (now (s .args .cat)) in
-    let q = c .before .before .pass in
-    moved-passes l (s .args .w) (s .pre .1 .pending) _ _ (q .result) (q .last .1 .1 .0)
-    (subst (λ (v : Walk). Passes l v (q .result) (q .last .1 .1 .0)) (c .before .before .before .before .entering .ensures)
-    (q .ensures))
+    let words = now (s .args .work) in
+    let e = c .before .before .before .before .before .entering in
+    let r = c .before .before .before .rights in
+    entered-passes l (s .args .w) words (s .pre .1) (e .ensures) (c .passed2 .result) (r .last .1 .1 .1 .1 .1 .1 .0)
+    (passes-by l (e .result) words (entered-fresh l (s .args .w) words (s .pre .1) (e .ensures) words refl) _ (r .ensures .0) _
+    (λ some. r .ensures .1) (search needs) (c .passed2 .result) (c .passed2 .ensures))
 
 pub pass-first-spec : {M : Type 1} → statement M
 pass-first-spec =
@@ -87,6 +96,7 @@ pass-first-spec =
     returns
     prepare-requires
     entering-requires
-    pass-requires
+    rights-requires
+    passed-requires-2
     same-length-2
     returns-2)
