@@ -13,9 +13,9 @@ use Rattle.columns.specs.Bound.{columnBound}
 use Rattle.columns.specs.Set.{bit, setBelow}
 use Rattle.columns.specs.Test.{pick}
 use Rattle.model.specs.View.{View, minimal}
-use Rattle.table.specs.Words.{word}
+use Rattle.table.specs.Words.{word, Narrow}
 use Rattle.model.specs.Rights.{rightAt}
-use Rattle.planes.specs.Bits.{PlaneFrom, Narrow}
+use Rattle.planes.specs.Bits.{planeBit, PlaneFrom}
 use Rattle.planes.specs.Plane.{Sown}
 use Rattle.planes.proofs.Plane.{seeds-filled-plane, narrow-is}
 use Rattle.planes.proofs.Seeds.{sown-kept}
@@ -25,7 +25,8 @@ use Rattle.blocks.proofs.Pairs.{added-le}
 
 -- a right asked for is minimal exactly if its plane shows it
 test-minimal : (v : View) (n own a x : ℕ) (seeds plane : List ℕ) (t : Bool) → Sown v n seeds → n ≤ columnBound → a ≤ n
-    → x < 2 ^ n → bit own a ≡ 1 → PlaneFrom n a seeds plane → (t ≡ true) ↔ Narrow plane x a → t ≡ askedMinimal v own x a
+    → x < 2 ^ n → bit own a ≡ 1 → PlaneFrom n a seeds plane → (t ≡ true) ↔ Narrow (planeBit plane) x a
+    → t ≡ askedMinimal v own x a
 test-minimal v n own a x seeds plane t s b h l asked fill f =
     let m = s .members in
     let full : PlaneFrom (v .members) a seeds plane = subst (λ (k : ℕ). PlaneFrom k a seeds plane) (sym m) fill in

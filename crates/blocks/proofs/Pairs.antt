@@ -17,8 +17,8 @@ use Rattle.columns.specs.declared.ColumnSet.{ColumnSet}
 use Rattle.columns.specs.declared.SetOrNone.the-variants.{Set, Nothing}
 use Rattle.columns.proofs.Order.{mem-inOrder}
 use Rattle.columns.proofs.Test.{ifEq-yes, ifEq-no, ifLe-yes}
-use Rattle.table.specs.Words.{word}
-use Rattle.planes.specs.Bits.{Narrow}
+use Rattle.table.specs.Words.{word, Narrow}
+use Rattle.planes.specs.Bits.{planeBit}
 use Rattle.planes.specs.Plane.{seedWords}
 use Rattle.planes.proofs.Bits.{power-words}
 use Rattle.blocks.specs.Cache.{pairsAt, leftAt, Room, Lefts, Added, AddedBelow, PairsBelow}
@@ -125,12 +125,14 @@ lefts-done n first x j pairs before after h le room l =
     }
 
 -- what a right adds
-pub added-yes : (plane : List ℕ) (x a p : ℕ) (t : Bool) → t ≡ true → p ≡ 2 ^ a → (t ≡ true) ↔ Narrow plane x a
+pub added-yes : (plane : List ℕ) (x a p : ℕ) (t : Bool) → t ≡ true → p ≡ 2 ^ a
+    → (t ≡ true) ↔ Narrow (planeBit plane) x a
     → Added plane x a p
 added-yes plane x a p t e i f =
     record { test = t; narrow = f; value = i ∙ ap (λ (b : Bool). pick b (2 ^ a) 0) (sym e) }
 
-pub added-no : (plane : List ℕ) (x a : ℕ) (t : Bool) → t ≡ false → (t ≡ true) ↔ Narrow plane x a → Added plane x a 0
+pub added-no : (plane : List ℕ) (x a : ℕ) (t : Bool) → t ≡ false → (t ≡ true) ↔ Narrow (planeBit plane) x a
+    → Added plane x a 0
 added-no plane x a t e f = record { test = t; narrow = f; value = ap (λ (b : Bool). pick b (2 ^ a) 0) (sym e) }
 
 pick-le : (t : Bool) (p : ℕ) → pick t p 0 ≤ p

@@ -8,10 +8,10 @@ use mathlib.Core.List.{List}
 use lib.ListN.{length}
 use Rattle.columns.specs.Test.{pick}
 use Rattle.model.specs.View.{View, isIn, minimal}
-use Rattle.table.specs.Words.{word}
+use Rattle.table.specs.Words.{word, Narrow}
 use Rattle.table.specs.Broken.{minimalMask}
 use Rattle.model.specs.Rights.{rightAt}
-use Rattle.planes.specs.Bits.{Narrow}
+use Rattle.planes.specs.Bits.{planeBit}
 use Rattle.planes.specs.Plane.{seedWords, Sown}
 
 -- where the pairs begin: behind the seeds, the cursor and the count
@@ -61,7 +61,7 @@ pub record Lefts (n first count : ℕ) (before after : List ℕ) : Type 0 where
 -- what a right adds to the rights of x, by its plane
 pub record Added (plane : List ℕ) (x a r : ℕ) : Type 0 where
   pub test : Bool
-  pub narrow : (test ≡ true) ↔ Narrow plane x a
+  pub narrow : (test ≡ true) ↔ Narrow (planeBit plane) x a
   pub value : r ≡ pick test (2 ^ a) 0
 
 -- right a is added to the first pairs, by its plane

@@ -14,11 +14,10 @@ use Rattle.columns.specs.Bound.{columnBound}
 use Rattle.columns.specs.Set.{bit}
 use Rattle.columns.proofs.Bits.{bit-past}
 use Rattle.model.specs.Bounds.{rowBound}
-use Rattle.model.proofs.Truth.{eqb-is}
+use Rattle.model.proofs.Truth.{eqb-is, same-test}
 use Rattle.table.proofs.Bits.{bit-none, bit-with-other, with-below}
 use Rattle.filled.proofs.Below.{below-more}
 use Rattle.leaders.specs.Keys.{keyAt}
-use Rattle.leaders.proofs.Keys.{same-test}
 use Rattle.classes.specs.Classes.{byteBound, byteStride, bytesSize, numberAt, Numbering, OnlyMember, SameClasses, MemberNumbered, Numbered}
 
 -- a byte of member k is stored

@@ -15,6 +15,7 @@ use Rattle.model.specs.Catalogue.{tables, tableAt, columns, parent, rows, rowAt
 use Rattle.model.specs.Check.{Accepted}
 use Rattle.model.specs.View.{View, In, agreeOn}
 use Rattle.model.specs.Target.{cellsAgree, agreeAt, view}
+use Rattle.model.proofs.Truth.{same-test}
 use Rattle.model.proofs.View.{agreeOn-is}
 use Rattle.model.proofs.Check.{accepted-parent, accepted-visible, accepted-row}
 use Rattle.model.proofs.Climb.{inherited-own}
@@ -23,7 +24,7 @@ use Rattle.table.proofs.Bits.{bit-none}
 use Rattle.leaders.specs.Leaders.{leaderOf}
 use Rattle.leaders.specs.Keys.{keysSize, keyAt, LaidFor}
 use Rattle.leaders.proofs.Leaders.{firstFrom-same}
-use Rattle.leaders.proofs.Keys.{agreeOn-one, same-test}
+use Rattle.leaders.proofs.Keys.{agreeOn-one}
 use Rattle.filled.specs.Filled.{Filled}
 use Rattle.filled.proofs.Filled.{filled-first}
 use Rattle.climb.proofs.Within.{row-within}

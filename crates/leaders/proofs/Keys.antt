@@ -15,9 +15,9 @@ use Rattle.columns.proofs.Bits.{bit-full}
 use Rattle.columns.proofs.SetBelow.{setBelow-same}
 use Rattle.model.specs.Bounds.{rowBound, row}
 use Rattle.model.specs.View.{View, Equivalence, In, isIn, Within, AgreeOn, agreeOn, agreeRight, holds, minimal, allBelow}
-use Rattle.model.proofs.Truth.{is-true, eqb-is}
+use Rattle.model.proofs.Truth.{eqb-is, same-test}
 use Rattle.model.proofs.View.{isIn-is, without-within}
-use Rattle.table.specs.Broken.{agreeSetOf, Pair, Table, minimalMask}
+use Rattle.table.specs.Broken.{agreeSetOf, Occurs, Table, minimalMask}
 use Rattle.model.specs.Rights.{rightAt}
 use Rattle.table.proofs.Bits.{bit-power-same, bit-power-other}
 use Rattle.table.proofs.Table.{right-row, right-column}
@@ -45,11 +45,6 @@ agreeOn-one v k p q l = (λ h. h k l (bit-power-same k), λ t j m i. at j i t (�
     at j i t (no n) = absurd (omega (arith, bit-power-other j k n))
 
 -- keys that are leaders on one member are right
-pub same-test : (a b : Bool) → (T a → T b) → (T b → T a) → a ≡ b
-same-test true b f g = sym (is-true (f tt))
-same-test false true f g = absurd (g tt)
-same-test false false f g = refl
-
 pub laid-keyed : (v : View) (set : ℕ) (keys : List ℕ) → Equivalence v → v .members ≤ columnBound → v .rows ≤ rowBound
     → LaidFor v set keys → Keyed v set (v .members) (v .rows) keys
 laid-keyed v set keys eq few short laid = record {
@@ -151,21 +146,17 @@ module _ {v : View} {n end : ℕ} {keys : List ℕ} (keyed : Keyed v (2 ^ n - 1)
       ∙ keyed-holds keyed x (rightAt n a) (λ k l i. bit-full n k l) (right-keyed n a k) in
       (λ e. same ∙ t .0 e, λ e. t .1 (sym same ∙ e))
 
-  -- marks of the agree sets of all pairs of rows, by keys, are those of the view
-  pub keyed-seeds : (Marked : ℕ → Type 0)
-      → ((s : ℕ) → s < 2 ^ n
-      → Marked s ↔ ((p : ℕ) × (q : ℕ) × Pair (keyView keys n end) p q × (agreeSetOf (keyView keys n end) p q ≡ s)))
-      → (s : ℕ) → s < 2 ^ v .members → Marked s ↔ ((p : ℕ) × (q : ℕ) × Pair v p q × (agreeSetOf v p q ≡ s))
-  keyed-seeds Marked seeds s l = (
-    λ m.
-        let f = seeds s (below l) .0 m in
+  -- an agree set occurs by keys exactly if it does in the view
+  pub keyed-occurs : (s : ℕ) → Occurs (keyView keys n end) s ↔ Occurs v s
+  keyed-occurs s = (
+    λ f.
         let i = f .2 .0 in
         let j = f .2 .1 in
         (f .0, f .1, (i, omega (arith, r)), keyed-agreeSet (f .0) (f .1) (omega arith) j ∙ f .3),
     λ f.
         let i = f .2 .0 in
         let j : f .1 < end = omega (arith, r, f .2 .1) in
-        seeds s (below l) .1 (f .0, f .1, (i, j), sym (keyed-agreeSet (f .0) (f .1) (omega arith) j) ∙ f .3),
+        (f .0, f .1, (i, j), sym (keyed-agreeSet (f .0) (f .1) (omega arith) j) ∙ f .3),
   )
     where
       r : v .rows ≡ end

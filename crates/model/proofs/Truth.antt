@@ -28,6 +28,12 @@ pub decided : (b : Bool) → T b ⊎ (T b → ⊥)
 decided true = inl tt
 decided false = inr (λ t. t)
 
+-- two tests that pass together are equal
+pub same-test : (a b : Bool) → (T a → T b) → (T b → T a) → a ≡ b
+same-test true b f g = sym (is-true (f tt))
+same-test false true f g = absurd (g tt)
+same-test false false f g = refl
+
 -- the connectives
 pub and-is : (a b : Bool) → T (a && b) ↔ (T a × T b)
 and-is true b = (λ t. (tt, t), λ h. h .1)

@@ -4,7 +4,7 @@ use Prim.Native.Nat.{ℕ, _+_, _-_, _*_, _/_, _%_, _^_, _<_}
 use mathlib.Core.Path.{_≡_}
 use mathlib.Core.Bool.{Bool}
 use mathlib.Core.List.{List}
-use Rattle.columns.specs.Set.{bit, setBelow, withoutOf}
+use Rattle.columns.specs.Set.{bit, setBelow}
 use Rattle.table.specs.Words.{word, Above}
 
 -- the bit of the left side x
@@ -34,9 +34,3 @@ pub record PlaneFrom (n a : ℕ) (seeds plane : List ℕ) : Type 0 where
       → (s : ℕ) × (s < 2 ^ n) × Above x s × (bit s a ≡ 0) × (planeBit seeds s ≡ 1)
   pub complete : (x s : ℕ) → x < 2 ^ n → s < 2 ^ n → Above x s → bit s a ≡ 0 → planeBit seeds s ≡ 1
       → planeBit plane x ≡ 1
-
--- right a is read off its plane for the left side x: it is not in x, x gives it, and x with a column less does not
-pub record Narrow (plane : List ℕ) (x a : ℕ) : Type 0 where
-  pub given : planeBit plane x ≡ 0
-  pub outside : bit x a ≡ 0
-  pub spare : (k : ℕ) → bit x k ≡ 1 → planeBit plane (withoutOf x k) ≡ 1

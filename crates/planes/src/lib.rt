@@ -7,7 +7,8 @@ ghost use mathlib.Core.Bool.{true};
 ghost use mathlib.Core.Logic.{_↔_};
 ghost use lib.ListN.{length};
 ghost use Rattle.columns.specs.Bound.{columnBound};
-ghost use Rattle.planes.specs.Bits.{planeBit, clearOf, SelectedWord, ClosedWord, PlaneFrom, Narrow};
+ghost use Rattle.table.specs.Words.{Narrow};
+ghost use Rattle.planes.specs.Bits.{planeBit, clearOf, SelectedWord, ClosedWord, PlaneFrom};
 use bits::power;
 
 // The word with a 1 at each position whose bit k is 0.
@@ -72,7 +73,7 @@ fn bit_at(plane: &[u32], x: u32) -> u32
 // Is right a minimal for the left side x, by the plane of a? It goes over the members of x, the lowest first.
 pub fn is_minimal(plane: &[u32], x: u32, a: u32) -> bool
     requires { ⌜ (x / 32 < length (now plane)) × (a ≤ columnBound) ⌝ }
-    ensures { λ r. ⌜ (r ≡ true) ↔ Narrow (now (plane .entry)) x a ⌝ }
+    ensures { λ r. ⌜ (r ≡ true) ↔ Narrow (planeBit (now (plane .entry))) x a ⌝ }
 {
     if bit_at(plane, x) != 0 {
         return false;

@@ -16,7 +16,7 @@ use Rattle.model.specs.Listing.{Listing, widthOf, ordinary}
 use Rattle.model.specs.View.{View}
 use Rattle.model.specs.Target.{view, ownRights}
 use Rattle.model.proofs.Rights.{own-rights-lt}
-use Rattle.table.specs.Words.{word, Read}
+use Rattle.table.specs.Words.{word, ReadOff}
 use Rattle.table.specs.Broken.{Table as Broken, minimalMask}
 use Rattle.table.proofs.Table.{rights-mask}
 use Rattle.planes.specs.Plane.{seedWords, Sown}
@@ -73,7 +73,7 @@ readable Seeds v n own words e h =
 
 -- what is read off the table
 pub table-found : (n x own r : ℕ) (words : List ℕ) → n ≤ columnBound → own < 2 ^ suc n → x < 2 ^ n
-    → ((a : ℕ) → (bit r a ≡ 1) ↔ Read words x own a) → MinimalBy n x Table own words words r
+    → ((a : ℕ) → (bit r a ≡ 1) ↔ ReadOff words x own a) → MinimalBy n x Table own words words r
 table-found n x own r words few small h read =
     record {
       minimal = λ v e t.

@@ -20,12 +20,12 @@ use Rattle.table.specs.Words.{word, Closed}
 use Rattle.table.specs.Broken.{Occurs, Table}
 use Rattle.table.proofs.Scan.{noted-scanned}
 use Rattle.table.proofs.Table.{scanned-closed-table}
-use Rattle.planes.specs.Bits.{planeBit, planeWord}
+use Rattle.planes.specs.Bits.{planeWord}
 use Rattle.planes.specs.Plane.{seedWords, Sown}
 use Rattle.planes.proofs.Bits.{power-words}
 use Rattle.planes.proofs.Seeds.{gathered-seeds, sown-kept}
 use Rattle.leaders.specs.Keys.{keyView, Keyed}
-use Rattle.leaders.proofs.Keys.{key-equivalence, keyed-table, keyed-seeds}
+use Rattle.leaders.proofs.Keys.{key-equivalence, keyed-table, keyed-occurs}
 use Rattle.scan.specs.SeenSets.{SeenSets, seenAt, brokenWord}
 use Rattle.lines.proofs.Lines.{or-next}
 use Rattle.filled.specs.Filled.{Filled}
@@ -96,7 +96,12 @@ module _ {keys seen : List ℕ} {n end : ℕ} (seen-is : SeenSets keys n end see
       (record {
         members = keyed .members;
         equivalence = eq;
-        seeds = keyed-seeds keyed (λ s. planeBit mid s ≡ 1)
-            (gathered-seeds (keyView keys n end) (seenAt seen) mid (λ s l. tests s)
-            (λ i l. filled-first written i (omega (arith, power-words n h))));
+        seeds = gathered-seeds v (seenAt seen) mid (λ s l. for-view s)
+            (λ i l. filled-first written i (omega (arith, power-words n h, ap (λ (k : ℕ). 2 ^ k) (keyed .members))));
       })
+    where
+      for-view : (s : ℕ) → T (seenAt seen s) ↔ Occurs v s
+      for-view s =
+          let by = tests s in
+          let same = keyed-occurs keyed s in
+          (λ t. same .0 (by .0 t), λ f. by .1 (same .1 f))

@@ -29,12 +29,8 @@ pub noted-scanned : (v : View) (seen : ℕ → Bool) (ws : List ℕ)
     → ((s : ℕ) → s < 2 ^ v .members → word ws s ≡ pick (seen s) (brokenBy (v .members) s) 0)
     → Scanned v ws
 noted-scanned v seen ws occurs noted s a l h =
-    let n = v .members in
     let is = ap (λ (w : ℕ). bit w a) (noted s l) in
-    let by = noted-bit n s a (seen s) l h in (
-      λ e.
-          let f = by .0 (sym is ∙ e) in
-          let g = occurs s l .0 (f .0) in
-          (g .0, g .1, g .2, record { agreed = g .3; outside = f .1 }),
-      λ f. is ∙ by .1 (occurs s l .1 (f .0, f .1, f .2, f .3 .agreed), f .3 .outside),
+    let by = noted-bit (v .members) s a (seen s) l h in (
+      λ e. let f = by .0 (sym is ∙ e) in (occurs s l .0 (f .0), f .1),
+      λ f. is ∙ by .1 (occurs s l .1 (f .0), f .1),
     )

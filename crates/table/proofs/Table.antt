@@ -3,7 +3,7 @@
 use Prim.Native.Nat.{ℕ, suc, _+_, _^_, _≤_, _<_}
 use mathlib.Core.Path.{_≡_, refl, sym, ap, subst, _∙_}
 use mathlib.Core.Logic.{_⊎_, inl, inr, _↔_}
-use mathlib.Core.Bool.{Bool, true, _&&_}
+use mathlib.Core.Bool.{Bool, true, false, _&&_}
 use mathlib.Core.List.{List}
 use native.Mathlib.Decide.{ℕ-discrete, decLt}
 use native.Mathlib.Omega.{arith}
@@ -20,8 +20,8 @@ use Rattle.model.specs.View.{View, Equivalence, In, isIn, AgreeOn, agreeRight, 
 use Rattle.model.proofs.Truth.{is-true, true-is, is-false, and-is, eqb-is, decided}
 use Rattle.model.proofs.View.{isIn-is, holds-is, holds-false, false-holds, minimal-is}
 use Rattle.model.proofs.View.{not-holds-breaks, breaks-holds-false}
-use Rattle.table.specs.Words.{word, Above, Closed, Read}
-use Rattle.table.specs.Broken.{agreeSetOf, Scanned, Table, minimalMask}
+use Rattle.table.specs.Words.{Above, Closed, Narrow, markAt, ReadOff}
+use Rattle.table.specs.Broken.{agreeSetOf, Occurs, Scanned, Table, minimalMask}
 use Rattle.model.specs.Rights.{rightAt}
 use Rattle.columns.proofs.SetBelow.{setBelow-lt}
 use Rattle.table.proofs.Bits.{mask-bit}
@@ -92,39 +92,52 @@ pub right-lacked : (v : View) (a p q : ℕ) → a ≤ v .members → v .members 
     → (T (agreeRight v (rightAt (v .members) a) p q) → ⊥) → bit (agreeSetOf v p q) a ≡ 0
 right-lacked v a p q h b l n = bit-zero-if (agreeSetOf v p q) a (λ i. n (right-agreed v a p q h b l .1 i))
 
--- the closed words say which rights each left side does not give
-pub scanned-closed-table : (v : View) (before after : List ℕ) → Equivalence v → v .members ≤ columnBound
-    → Scanned v before → Closed (v .members) before after → Table v after
-scanned-closed-table v before after eq b scan close x a l h = (
-  λ e.
-      let f = close .sound x a l e in
-      let g = scan (f .0) a (f .1) h .0 (f .3) in
-      let p = g .0 in
-      let q = g .1 in
-      let s = g .3 .agreed in
-      let z = g .3 .outside in
+-- a left side x does not give right a exactly if an agree set that occurs is x or larger and a is not in it
+abbrev pub BrokenBySet : View → ℕ → ℕ → Type 0
+BrokenBySet v x a = (s : ℕ) × (s < 2 ^ v .members) × Above x s × (bit s a ≡ 0) × Occurs v s
+
+pub broken-by-set : (v : View) (x a : ℕ) → Equivalence v → v .members ≤ columnBound → x < 2 ^ v .members
+    → a ≤ v .members → BrokenBySet v x a ↔ (holds v x (rightAt (v .members) a) ≡ false)
+broken-by-set v x a eq b l h = (
+  λ f.
+      let p = f .4 .0 in
+      let q = f .4 .1 in
+      let lower = f .4 .2 .0 in
+      let s = f .4 .3 in
+      let z = f .3 in
       breaks-holds-false
       (record {
-        lower = g .2 .0;
-        exists = g .2 .1;
+        lower = lower;
+        exists = f .4 .2 .1;
         left = above-agreeOn v x p q (λ k i. ap (λ (t : ℕ). bit t k) s ∙ f .2 k i);
-        right = λ t. omega (arith, right-agreed v a p q h b (g .2 .0) .0 t, ap (λ (t : ℕ). bit t a) s);
+        right = λ t. omega (arith, right-agreed v a p q h b lower .0 t, ap (λ (t : ℕ). bit t a) s);
       }),
   λ e.
       let g = not-holds-breaks v eq x (rightAt (v .members) a) e in
       let p = g .0 in
       let q = g .1 in
-      let k = g .2 in
-      let s = agreeSetOf v p q in
-      let w = agreeSet-below v p q in
-      close .complete x s a l w (agreeOn-above v x p q l (k .left))
-      (scan s a w h .1 (
-        p,
-        q,
-        (k .lower, k .exists),
-        record { agreed = refl; outside = right-lacked v a p q h b (k .lower) (k .right) },
-      )),
+      let k = g .2 in (
+        agreeSetOf v p q,
+        agreeSet-below v p q,
+        agreeOn-above v x p q l (k .left),
+        right-lacked v a p q h b (k .lower) (k .right),
+        (p, q, (k .lower, k .exists), refl),
+      ),
 )
+
+-- the closed words say which rights each left side does not give
+pub scanned-closed-table : (v : View) (before after : List ℕ) → Equivalence v → v .members ≤ columnBound
+    → Scanned v before → Closed (v .members) before after → Table v after
+scanned-closed-table v before after eq b scan close x a l h =
+    let is = broken-by-set v x a eq b l h in (
+      λ e.
+          let f = close .sound x a l e in
+          let g = scan (f .0) a (f .1) h .0 (f .3) in
+          is .0 (f .0, f .1, f .2, g .1, g .0),
+      λ e.
+          let f = is .1 e in
+          close .complete x (f .0) a l (f .1) (f .2) (scan (f .0) a (f .1) h .1 (f .4, f .3)),
+    )
 
 -- a right is in the left side x exactly if its bit is: the row never is
 pub right-in : (n x a : ℕ) → n ≤ columnBound → x < 2 ^ n → a ≤ n → In (rightAt n a) x ↔ (bit x a ≡ 1)
@@ -136,30 +149,26 @@ right-in n x a b l h = at (ℕ-discrete a n)
         (λ i. absurd (omega arith), λ i. absurd (omega (arith, bit-past x n a l (omega arith))))
     at (no d) = let r = ap (bit x) (right-column n a d) in (λ i. sym r ∙ i, λ i. r ∙ i)
 
--- what is read off the words is what is minimal
-pub read-minimal : (v : View) (ws : List ℕ) (x own a : ℕ) → v .members ≤ columnBound → Table v ws → x < 2 ^ v .members
-    → a ≤ v .members → Read ws x own a ↔ ((bit own a ≡ 1) × Minimal v x (rightAt (v .members) a))
-read-minimal v ws x own a b table l h = (
+-- what is read off marks of the left sides that do not give a right is what is minimal
+pub narrow-minimal : (v : View) (mark : ℕ → ℕ) (x a : ℕ) → v .members ≤ columnBound → ((y : ℕ) → mark y < 2)
+    → ((y : ℕ) → y < 2 ^ v .members → (mark y ≡ 1) ↔ (holds v y (rightAt (v .members) a) ≡ false))
+    → x < 2 ^ v .members → a ≤ v .members → Narrow mark x a ↔ Minimal v x (rightAt (v .members) a)
+narrow-minimal v mark x a b digit is l h = (
   λ f.
       let o = f .outside in
-      let g = f .given in (
-        f .asked,
-        record {
-          holds = given g (decided (holds v x right));
-          outside = λ i. omega (arith, right-in (v .members) x a b l h .0 i);
-          spare = λ k m i less.
-              let y = withoutOf x k in
-              holds-false v y right (table y a (without-below (v .members) x k l) h .0 (f .spare k i)) less;
-        },
-      ),
-  λ f.
-      let m = f .1 in
       record {
-        asked = f .0;
+        holds = given (f .given) (decided (holds v x right));
+        outside = λ i. omega (arith, right-in (v .members) x a b l h .0 i);
+        spare = λ k m i less.
+            let y = withoutOf x k in
+            holds-false v y right (is y (without-below (v .members) x k l) .0 (f .spare k i)) less;
+      },
+  λ m.
+      record {
+        given = digit-zero (mark x) (digit x) (λ i. holds-false v x right (is x l .0 i) (m .holds));
         outside = bit-zero-if x a (λ i. m .outside (right-in (v .members) x a b l h .1 i));
-        given = bit-zero-if (word ws x) a (λ i. holds-false v x right (table x a l h .0 i) (m .holds));
         spare = λ k i.
-            table (withoutOf x k) a (without-below (v .members) x k l) h .1
+            is (withoutOf x k) (without-below (v .members) x k l) .1
             (false-holds v (withoutOf x k) right (m .spare k (member-below (v .members) x k l i) i));
       },
 )
@@ -167,19 +176,19 @@ read-minimal v ws x own a b table l h = (
     right : ℕ
     right = rightAt (v .members) a
 
-    given : bit (word ws x) a ≡ 0 → T (holds v x right) ⊎ (T (holds v x right) → ⊥) → Holds v x right
+    given : mark x ≡ 0 → T (holds v x right) ⊎ (T (holds v x right) → ⊥) → Holds v x right
     given e (inl t) = holds-is v x right .0 t
-    given e (inr n) = absurd (omega (arith, table x a l h .1 (is-false n)))
+    given e (inr n) = absurd (omega (arith, is x l .1 (is-false n)))
 
 -- the mask that `minimal_rights` promises, for words that are the table: the rights asked for that are minimal
 pub rights-minimal : (v : View) (ws : List ℕ) (x own r : ℕ) → v .members ≤ columnBound → Table v ws → x < 2 ^ v .members
-    → ((a : ℕ) → (bit r a ≡ 1) ↔ Read ws x own a)
+    → ((a : ℕ) → (bit r a ≡ 1) ↔ ReadOff ws x own a)
     → (a : ℕ) → a ≤ v .members → (bit r a ≡ 1) ↔ ((bit own a ≡ 1) × (minimal v x (rightAt (v .members) a) ≡ true))
 rights-minimal v ws x own r b table l read a h =
-    let m = read-minimal v ws x own a b table l h in
+    let m = narrow-minimal v (markAt ws a) x a b (λ y. omega arith) (λ y k. table y a k h) l h in
     let t = minimal-is v x (rightAt (v .members) a) in (
-      λ e. let f = m .0 (read a .0 e) in (f .0, is-true (t .1 (f .1))),
-      λ f. read a .1 (m .1 (f .0, t .0 (true-is (f .1)))),
+      λ e. let f = read a .0 e in (f .0, is-true (t .1 (m .0 (f .1)))),
+      λ f. read a .1 (f .0, m .1 (t .0 (true-is (f .1)))),
     )
 
 -- bits that are 1 together are equal
@@ -228,6 +237,6 @@ minimal-mask v x own r o asked is =
 
 -- and so the mask that `minimal_rights` promises is that number
 pub rights-mask : (v : View) (ws : List ℕ) (x own r : ℕ) → v .members ≤ columnBound → Table v ws → x < 2 ^ v .members
-    → own < 2 ^ suc (v .members) → ((a : ℕ) → (bit r a ≡ 1) ↔ Read ws x own a) → r ≡ minimalMask v own x
+    → own < 2 ^ suc (v .members) → ((a : ℕ) → (bit r a ≡ 1) ↔ ReadOff ws x own a) → r ≡ minimalMask v own x
 rights-mask v ws x own r b table l o read =
-    minimal-mask v x own r o (λ a e. read a .0 e .asked) (rights-minimal v ws x own r b table l read)
+    minimal-mask v x own r o (λ a e. read a .0 e .0) (rights-minimal v ws x own r b table l read)

@@ -15,24 +15,22 @@ use Rattle.table.specs.Words.{word}
 abbrev pub agreeSetOf : View → ℕ → ℕ → ℕ
 agreeSetOf v p q = setBelow (v .members) (λ k. v .agree k p q)
 
--- two rows show that the left side s does not give right a: s is their agree set, and a is not in it
-pub record Shows (v : View) (s a p q : ℕ) : Type 0 where
-  pub agreed : agreeSetOf v p q ≡ s
-  pub outside : bit s a ≡ 0
-
--- the words are what some pairs of rows give: at each agree set that occurs among them, the rights that it breaks
-abbrev pub GivenBy : View → (ℕ → ℕ → Type 0) → List ℕ → Type 0
-GivenBy v P ws =
-    (s a : ℕ) → s < 2 ^ v .members → a ≤ v .members
-    → (bit (word ws s) a ≡ 1) ↔ ((p : ℕ) × (q : ℕ) × P p q × Shows v s a p q)
-
 -- the pairs of different rows, the lower first
 abbrev pub Pair : View → ℕ → ℕ → Type 0
 Pair v p q = (p < q) × (q < v .rows)
 
--- an agree set occurs: it is that of some pair
+-- an agree set occurs among some pairs of rows: it is that of one of them; and among all
+abbrev pub OccursIn : View → (ℕ → ℕ → Type 0) → ℕ → Type 0
+OccursIn v P s = (p : ℕ) × (q : ℕ) × P p q × (agreeSetOf v p q ≡ s)
+
 abbrev pub Occurs : View → ℕ → Type 0
-Occurs v s = (p : ℕ) × (q : ℕ) × Pair v p q × (agreeSetOf v p q ≡ s)
+Occurs v = OccursIn v (Pair v)
+
+-- the words are what some pairs of rows give: at each agree set that occurs among them, the rights that are not in it
+abbrev pub GivenBy : View → (ℕ → ℕ → Type 0) → List ℕ → Type 0
+GivenBy v P ws =
+    (s a : ℕ) → s < 2 ^ v .members → a ≤ v .members
+    → (bit (word ws s) a ≡ 1) ↔ (OccursIn v P s × (bit s a ≡ 0))
 
 -- what the agree set s breaks, of n members: all rights up to the row, but for those in the set
 abbrev pub brokenBy : ℕ → ℕ → ℕ

@@ -56,10 +56,16 @@ pub record Closed (n : ℕ) (before after : List ℕ) : Type 0 where
       → bit (word after x) a ≡ 1
   pub past : (y : ℕ) → 2 ^ n ≤ y → word after y ≡ word before y
 
--- right a is read off the words for the left side x: it is asked for and not in x, x gives it, and x with a column
--- less does not
-pub record Read (ws : List ℕ) (x own a : ℕ) : Type 0 where
-  pub asked : bit own a ≡ 1
+-- right a is read off marks of left sides, 1 where one does not give it: the left side x gives it, it is not in x, and
+-- x with a column less does not give it
+pub record Narrow (mark : ℕ → ℕ) (x a : ℕ) : Type 0 where
+  pub given : mark x ≡ 0
   pub outside : bit x a ≡ 0
-  pub given : bit (word ws x) a ≡ 0
-  pub spare : (k : ℕ) → bit x k ≡ 1 → bit (word ws (withoutOf x k)) a ≡ 1
+  pub spare : (k : ℕ) → bit x k ≡ 1 → mark (withoutOf x k) ≡ 1
+
+-- off the words, each of them with the marks for every right, among the rights that are asked for
+abbrev pub markAt : List ℕ → ℕ → ℕ → ℕ
+markAt ws a x = bit (word ws x) a
+
+abbrev pub ReadOff : List ℕ → ℕ → ℕ → ℕ → Type 0
+ReadOff ws x own a = (bit own a ≡ 1) × Narrow (markAt ws a) x a

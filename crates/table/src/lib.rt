@@ -8,7 +8,7 @@ ghost use mathlib.Core.Path.{_≡_};
 ghost use mathlib.Core.Logic.{_↔_};
 ghost use lib.ListN.{length};
 ghost use Rattle.columns.specs.Set.{bit};
-ghost use Rattle.table.specs.Words.{lackingOf, BlockJoined, ColumnsJoined, ColumnJoined, Closed, Read};
+ghost use Rattle.table.specs.Words.{lackingOf, BlockJoined, ColumnsJoined, ColumnJoined, Closed, ReadOff};
 use bits::power;
 
 // Joins one block: each of the `column` words from `start` on gets the bits of the word that is `column` further on.
@@ -94,7 +94,7 @@ pub fn lacking(x: u32, y: u32) -> u32
 // of x, the lowest first, and ends early once no right is left.
 pub fn minimal_rights(words: &[u32], x: u32, own: u32) -> u32
     requires { ⌜ x < length (now words) ⌝ }
-    ensures { λ r. ⌜ ((a : ℕ) → (bit r a ≡ 1) ↔ Read (now (words .entry)) x own a) ⌝ }
+    ensures { λ r. ⌜ ((a : ℕ) → (bit r a ≡ 1) ↔ ReadOff (now (words .entry)) x own a) ⌝ }
 {
     let mut rights = lacking(lacking(own, x), words[x as usize]);
     let mut rest = x;

@@ -4,12 +4,13 @@ use native.Mathlib.Omega.{arith}
 use lib.Bits.{and-le-l}
 use borrow.Author.Needs.{needs}
 use Rattle.table.proofs.Reading.{lowest-part, rest-less}
+use Rattle.planes.specs.Bits.{planeBit}
 use Rattle.planes.proofs.Members.{NarrowSoFar, narrow-begun, narrow-more, narrow-failed, narrow-done, not-narrow}
 use Rattle.planes.proofs.is_minimal.Statement.{statement}
 use Rattle.planes.proofs.is_minimal.Tie as tie
 
 abbrev Inv-loop : tie.InvT-loop
-Inv-loop plane x a rest₀ rest = NarrowSoFar plane x a rest
+Inv-loop plane x a rest₀ rest = NarrowSoFar (planeBit plane) x a rest
 
 abbrev μ-loop : tie.MeasureT-loop
 μ-loop plane x a rest₀ rest = rest
