@@ -1,7 +1,6 @@
 pub mod Lists
 pub mod Called
 pub mod Steps
-pub mod Local
 pub mod ByValue
 pub mod WholeRun
 pub mod Meaning

@@ -75,7 +75,7 @@ use Rattle.listing.specs.Filled.{runBound, cap}
 use Rattle.listing.proofs.Filled as F
 use Rattle.listing.proofs.Filled.Laws as F′
 use Rattle.lent.proofs.Lent as lent
-use Rattle.listing.proofs.Local.{row-cut, row-join, array-out, array-in, array-under, each-replicate}
+use Rattle.lent.proofs.Local.{row-cut, row-join, array-out, array-in, array-under, each-replicate}
 use Rattle.listing.proofs.ByValue.{zeros, cap-within, fresh, rest, run-parts, run-length, filled-by, answerVal}
 use Rattle.listing.proofs.ByValue.{Hands, Capped, Lister, to-capped, capped-asks, capped-tells, to-list}
 use Rattle.listing.proofs.ByValue.{list-asks, list-tells}
