@@ -1,14 +1,17 @@
 // Runs packing, opening and the part in front on lists of 0, 1 and 3 entries, alone and behind the album's 84 bytes,
 // on outputs that just fit and are one byte short, and on lists damaged in every way that 14 and 15 name, at the
-// first, a middle and the last entry. It prints what came back: of a refused file the refusal, and no byte in front.
+// first, a middle and the last entry; and reads lists entry by entry (`reading`). It prints what came back: of a
+// refused file the refusal, no byte in front and no entry.
 mod pack;
 mod print;
+mod reading;
 
 ghost use Prim.Native.Nat.{_≤_};
 use pack::pack_bytes;
 use print::print_bytes;
 use print::print_head;
 use print::print_packed;
+use reading::print_steps;
 use text::put_byte;
 use text::put_word;
 use trial_kit::ALBUM;
@@ -141,6 +144,31 @@ fn no_lists() {
     read(&file);
 }
 
+// A reading of a file, in so many steps.
+fn read_on(file: &[u8], steps: u32) {
+    print_steps(file, steps);
+    end();
+}
+
+// Readings to the end and one step past it: of none, of three, of three behind the album, of the same with a last
+// target of 16, and of seven bytes. A refused list gives no entry, though its first ones are good.
+fn readings() {
+    print_word(b"readings\n");
+    let mut none = [0u8; 8];
+    pack_bytes(&LISTING, 0, &mut none);
+    read_on(&none, 2);
+    let mut three = [0u8; 20];
+    pack_bytes(&LISTING, 3, &mut three);
+    read_on(&three, 5);
+    let mut file = [0u8; 104];
+    put_word(&mut file, 0, &ALBUM);
+    put_word(&mut file, 84, &three);
+    read_on(&file, 5);
+    put_byte(&mut file, 92, 16);
+    read_on(&file, 2);
+    read_on(&ALBUM[..7], 2);
+}
+
 fn main() {
     none();
     one();
@@ -148,4 +176,5 @@ fn main() {
     behind();
     bad_entries();
     no_lists();
+    readings();
 }
