@@ -4,7 +4,7 @@
 --     asks      a call asks the tokens and what its arguments own
 --     told      after a call the walk has the tokens, what the answer owns at its value, and the last values, and it
 --               learns `Hands`
---     calls     both, around a call
+--     calls, calls-last    both, around a call; `calls-last` where it is the last statement of its part
 -- The callee's contract is `closing` of its clauses, as every generated `spec` is. Assumes `Given`.
 use Prim.Native.Nat.{ℕ, zero, suc}
 use mathlib.Core.Path.{_≡_, refl, ap, subst}
@@ -19,7 +19,8 @@ use ghost.Atoms.{Atoms, sem}
 use contract.Lifetimes.{Lfts, Shares, toks}
 use contract.Monad.{fact, fact-use}
 use sound.WpLaws.{FmC}
-use types.Kit.{Post, Goal, Soaks, runs, lands, Given, Item, Seq, mean, ‵, raw, _⊛_, given, some, later, _$_, _∵_, ! }
+use types.Kit.{Post, Goal, Soaks, runs, lands, settles, Given, Item, Seq, mean, ‵, raw, _⊛_, given, some, later, _$_}
+use types.Kit.{_∵_, ! }
 use types.Kit.{qed, by, move, use0, use1, use2}
 use types.Kit.{split, join, pick, learn, rewrite, frame, await, done}
 use denote.RattleType.{RattleType, owns}
@@ -30,7 +31,7 @@ use denote.Signature.{typeAt, typesAt}
 use denote.Triple.Entry.{alive}
 use types.Run.{Opds}
 use denote.Triple.Statement.{Contract, Triple}
-use denote.Triple.Call.{calls-at}
+use denote.Triple.Call.{calls-at, calls-at-last}
 use denote.Triple.Spec.{tripleOf}
 use denote.Triple.Clauses.{Ended, Clauses, Lasts, atExit, lasts, closing}
 
@@ -104,6 +105,20 @@ module _ {M : Type 1} (𝓤 : URA M) (H : Heap 𝓤) (A : Atoms 𝓤) (T : Ended
         (tokens-in 𝓤 H A W (T .signature .lifetimes) (x .0 .0) (x .0 .1)) $ join ! $
         use0 W (raw (c (x .0 .0) (x .0 .3) .requires (x .1))) had $ move ! (1 ∷ 0 ∷ []) $ join ! $ done !
 
+-- around a call with the operands xs, where `after v` is to be shown once it has answered v
+abbrev pub Around : {M : Type 1} (𝓤 : URA M) (H : Heap 𝓤) (A : Atoms 𝓤) (K : Type 0) (W : Given 𝓤 H A)
+    (Γ : List (Item 𝓤))
+    (E : Env 𝓤 H) (xs : List Operand) (T : Ended) (c : Clauses 𝓤 T) → (Val → Goal 𝓤 H) → Goal 𝓤 H → Type 2
+Around 𝓤 H A K W Γ E xs T c after G =
+    (x : Callee 𝓤 H A T c .Ghost) → ent 𝓤 (emp 𝓤) (c (x .0 .0) (x .0 .3) .requires (x .1))
+    → Opds K W (raw (Callee 𝓤 H A T c .pre x) ∷ Γ) E xs (Callee 𝓤 H A T c .args x)
+    → (val : Answer 𝓤 H A T c x .Denot → Val)
+    → Tells (Answer 𝓤 H A T c x) (Is (Answer 𝓤 H A T c x)) (λ r. val r ∷ [])
+    → (S : Answer 𝓤 H A T c x .Denot → Last 𝓤 H A T c x → Type 0) → Says 𝓤 H A T c x S
+    → ((v : Val) (r : Answer 𝓤 H A T c x .Denot) (ws : Last 𝓤 H A T c x) → Handed 𝓤 H A T c x val S v r ws
+    → Seq K W (Back 𝓤 H A T c x val r ws Γ) (after v))
+    → Seq K W (tokensOf 𝓤 H A T c x ∷ ‵ (argsOwn 𝓤 H A T c x) ∷ Γ) G
+
 module _ {M : Type 1} {𝓤 : URA M} {H : Heap 𝓤} {A : Atoms 𝓤} {K : Type 0} {W : Given 𝓤 H A} {Γ : List (Item 𝓤)} where
   pub told : {G : Goal 𝓤 H} → K → Soaks G → (T : Ended) (c : Clauses 𝓤 T) (x : Callee 𝓤 H A T c .Ghost)
       (val : Answer 𝓤 H A T c x .Denot → Val)
@@ -137,17 +152,17 @@ module _ {M : Type 1} {𝓤 : URA M} {H : Heap 𝓤} {A : Atoms 𝓤} {K : Type 
         settled = subst (Is R r) (tells r (v ∷ []) is) is;
       }))))))
 
-  module _ {E : Env 𝓤 H} {C : Calls 𝓤 H} {Λ : Loops 𝓤 H} {f : Name} {xs : List Operand} {d : Place} {q : Post 𝓤 H} where
-    pub calls : K → FmC 𝓤 H (W .laws) C → {rest : Body} (T : Ended) (c : Clauses 𝓤 T)
-        → Triple 𝓤 (C f) (Callee 𝓤 H A T c) → (x : Callee 𝓤 H A T c .Ghost)
-        → ent 𝓤 (emp 𝓤) (c (x .0 .0) (x .0 .3) .requires (x .1))
-        → Opds K W (raw (Callee 𝓤 H A T c .pre x) ∷ Γ) E xs (Callee 𝓤 H A T c .args x)
-        → (val : Answer 𝓤 H A T c x .Denot → Val)
-        → Tells (Answer 𝓤 H A T c x) (Is (Answer 𝓤 H A T c x)) (λ r. val r ∷ [])
-        → (S : Answer 𝓤 H A T c x .Denot → Last 𝓤 H A T c x → Type 0) → Says 𝓤 H A T c x S
-        → ((v : Val) (r : Answer 𝓤 H A T c x .Denot) (ws : Last 𝓤 H A T c x) → Handed 𝓤 H A T c x val S v r ws
-        → Seq K W (Back 𝓤 H A T c x val r ws Γ) (lands C Λ E d v rest q))
-        → Seq K W (tokensOf 𝓤 H A T c x ∷ ‵ (argsOwn 𝓤 H A T c x) ∷ Γ) (runs C Λ E (seq (call f xs d) rest) q)
-    calls k fm T c known x had os val tells S said go =
-        use2 W (raw (Callee 𝓤 H A T c .pre x)) (asks 𝓤 H A T c x W had) $
-        calls-at k fm (Callee 𝓤 H A T c) known x os (λ v. told k tt T c x val tells S said v (go v))
+  module _ {E : Env 𝓤 H} {C : Calls 𝓤 H} {Λ : Loops 𝓤 H} {f : Name} {xs : List Operand} {d : Place} {q : Post 𝓤 H}
+    where
+      pub calls : K → FmC 𝓤 H (W .laws) C → {rest : Body} (T : Ended) (c : Clauses 𝓤 T)
+          → Triple 𝓤 (C f) (Callee 𝓤 H A T c)
+          → Around 𝓤 H A K W Γ E xs T c (λ v. lands C Λ E d v rest q) (runs C Λ E (seq (call f xs d) rest) q)
+      calls k fm T c known x had os val tells S said go =
+          use2 W (raw (Callee 𝓤 H A T c .pre x)) (asks 𝓤 H A T c x W had) $
+          calls-at k fm (Callee 𝓤 H A T c) known x os (λ v. told k tt T c x val tells S said v (go v))
+
+      pub calls-last : K → FmC 𝓤 H (W .laws) C → (T : Ended) (c : Clauses 𝓤 T) → Triple 𝓤 (C f) (Callee 𝓤 H A T c)
+          → Around 𝓤 H A K W Γ E xs T c (λ v. settles E d v q) (runs C Λ E (call f xs d) q)
+      calls-last k fm T c known x had os val tells S said go =
+          use2 W (raw (Callee 𝓤 H A T c .pre x)) (asks 𝓤 H A T c x W had) $
+          calls-at-last k fm (Callee 𝓤 H A T c) known x os (λ v. told k tt T c x val tells S said v (go v))
