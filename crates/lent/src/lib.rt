@@ -1,6 +1,8 @@
-// Not for callers: lent memory. `zero_words` is what every answer does to the work words; proofs/Lent.antt has the laws for walks by hand over a
-// lent slice of records, which the borrow checker does not cover.
-// Relies on nothing. Called by `dependency` and `steps`; the proofs of `listing`, `packed` and `host` cite the laws.
+// Not for callers: lent memory. `zero_words` is what every answer does to the work words; in proofs/ stand the laws for
+// walks by hand, which the borrow checker does not cover: over a lent slice (`Lent`), a local array (`Local`), a call
+// (`Called`), and the end of a walk (`Walk`).
+// Relies on nothing. Called by `dependency` and `steps`; the proofs of `listing`, `packed`, `host` and `packed_trials`
+// cite the laws.
 ghost use mathlib.Core.Path.{_≡_};
 ghost use lib.ListN.{length, replicate};
 

@@ -24,8 +24,8 @@ use types.Kit.{Given, Item, ‵, _⊛_, ⋆, _$_, _∵_, !, qed, by, move, keep,
 use types.Kit.{split, join, rewrite, fsplit, fjoin, suffices, frame, done}
 use types.Part.{whole, sub, look-in, agg}
 use types.Run.{look, init, stop, hop, fld, from, load, addr, and-then, no-more, assigns, land, returns, enter}
-use types.Run.{alloc0, alloc1, params1, pass1, pass0, forget, free1, free0}
-use sound.WpLaws.{FmC, fmOf, WpFn-mono}
+use types.Run.{alloc0, alloc1, params1, pass1, pass0}
+use sound.WpLaws.{FmC, fmOf}
 use denote.RattleType.{owns}
 use denote.Laws.{Is}
 use denote.Plain.{uint-vals, uint-tells, uint-makes}
@@ -40,8 +40,7 @@ use denote.Triple.Entry.{Vals, onEntry}
 use denote.Triple.Spec.{Meets, tripleOf}
 use denote.Triple.Statement.{Triple}
 use denote.Triple.Table.{entered, cited}
-use denote.Triple.Walked.{says, Stays, stay-none-slice, stay-none, gave-slice, gave-ref, walkOf, AllGo, Walks, ends-at}
-use denote.Triple.Walked.{walked, walk-meets}
+use denote.Triple.Walked.{says, Stays, stay-none-slice, stay-none, gave-slice, gave-ref, walkOf, AllGo, ends-at}
 use denote.Triple.Walked.{goes-none-slice, goes-none, goes-gave-slice, goes-gave-ref}
 use denote.Exit.{yes}
 use Rattle.model.specs.List.{ListMeaning}
@@ -52,6 +51,7 @@ use Rattle.model.proofs.Entry as R
 use Rattle.model.proofs.ListAnswer as L
 use Rattle.model.proofs.ListAnswer.Laws as L′
 use Rattle.listing.specs.Steps.{seen}
+use Rattle.lent.proofs.Walk.{full, _◂_, leaves, met}
 use Rattle.lent.proofs.Lent as lent
 use Rattle.lent.proofs.Called.{Callee, lastOwn, calls}
 use Rattle.listing.proofs.list as list
@@ -299,27 +299,41 @@ module _ {M : Type 1} (𝓤 : URA M) (H : Heap 𝓤) (A : Atoms 𝓤) (W : Given
         (λ u z ps counted.
         land ! (from ! (stop !)) (init ! 34 refl (sint-lawful 𝓤 H A W w64 .typed z _ (counted .typed) .0)) $
         rewrite ! 34 (λ (w : Val). ‵ (fat fullShare (tyInt w64) l₀ 0 w)) (counted .value) refl $
-        returns ! (look ! 34 refl) $ forget ! 34 refl $ forget ! 32 refl $ forget ! 30 refl $ forget ! 28 refl $
-        forget ! 26 refl $ forget ! 24 refl $ forget ! 22 refl $ forget ! 20 refl $ forget ! 18 refl $
-        forget ! 16 refl $ forget ! 14 refl $ forget ! 12 refl $ forget ! 10 refl $ forget ! 8 refl $ forget ! 6 refl $
-        move ! (34 ∷ 35 ∷ []) $ free1 ! $ move ! (32 ∷ 33 ∷ []) $ free1 ! $ move ! (30 ∷ 31 ∷ []) $ free1 ! $
-        move ! (28 ∷ 29 ∷ []) $ free1 ! $ move ! (26 ∷ 27 ∷ []) $ free1 ! $ move ! (24 ∷ 25 ∷ []) $ free1 ! $
-        move ! (22 ∷ 23 ∷ []) $ free1 ! $ move ! (20 ∷ 21 ∷ []) $ free1 ! $ move ! (18 ∷ 19 ∷ []) $ free1 ! $
-        move ! (16 ∷ 17 ∷ []) $ free1 ! $ move ! (14 ∷ 15 ∷ []) $ free1 ! $ move ! (12 ∷ 13 ∷ []) $ free1 ! $
-        move ! (10 ∷ 11 ∷ []) $ free1 ! $ move ! (8 ∷ 9 ∷ []) $ free1 ! $ move ! (6 ∷ 7 ∷ []) $ free1 ! $ free0 ! $
+        returns ! (look ! 34 refl) $ leaves ! 34 (full ◂ full ◂ full ◂ full ◂ full ◂ full ◂ full ◂ full ◂ full ◂ full ◂
+        full ◂ full ◂ full ◂ full ◂ full ◂ tt) $
         by ! (exits a (ls .1 .1 .1 .0) (ls .1 .1 .1 .1 .0) z (ps .1 .0) (ps .1 .1 .0) (hands .kept .1 .1 .1 .0 .1)
         (hands .kept .1 .1 .1 .1 .0 .1) (hands .ensured) (counted .ensured) gp gb))
         ))))))))))))))))
 
 module _ {M : Type 1} (𝓤 : URA M) (H : Heap 𝓤) (A : Atoms 𝓤) (W : Given 𝓤 H A) (mem : Memory → SProp 𝓤)
     (routine : Routine → Fun 𝓤) where
-  walks : (𝓣 : Tables 𝓤 H) → Triple 𝓤 (𝓣 .C list-def.name) (Callee 𝓤 H A list.ended (list.clauses 𝓤 H A mem routine))
+  goes : AllGo 𝓤 H A W 5 (cagberin_list.signature .params) (cagberin_list.ended .kept) stayed
+  goes = (
+    goes-none-slice 𝓤 H A W 5 (0 ∷ []) tt (plain (λ _. u8)) yes,
+    (
+      goes-none 𝓤 H A W 5 (λ _. u32) yes (λ κs x f. refl),
+      (
+        goes-none 𝓤 H A W 5 (λ _. u32) yes (λ κs x f. refl),
+        (
+          goes-gave-slice 𝓤 H A W 5 1 tt (plain (λ _. R.the-row)),
+          (
+            goes-gave-slice 𝓤 H A W 5 2 tt (plain (λ _. u32)),
+            (
+              goes-gave-ref 𝓤 H A W 5 3 tt (plain (λ _. u32)),
+              (goes-gave-ref 𝓤 H A W 5 4 tt (plain (λ _. u32)), tt),
+            ),
+          ),
+        ),
+      ),
+    ),
+  )
+
+  meets : (𝓣 : Tables 𝓤 H) → Triple 𝓤 (𝓣 .C list-def.name) (Callee 𝓤 H A list.ended (list.clauses 𝓤 H A mem routine))
       → Triple 𝓤 (𝓣 .C number-def.name) (Callee 𝓤 H A number.ended (number.clauses 𝓤 H A mem routine))
-      → Walks 𝓤 H A cagberin_list.ended stayed (WpFn 𝓤 H (𝓣 .C) (𝓣 .Λ) code.function)
-      (cagberin_list.clauses 𝓤 H A mem routine)
-  walks 𝓣 known-list known-number =
-      walked 𝓤 H A cagberin_list.ended stayed (cagberin_list.clauses 𝓤 H A mem routine)
-      (WpFn 𝓤 H (𝓣 .C) (𝓣 .Λ) code.function)
+      → Meets 𝓤 H A cagberin_list.signature (WpFn 𝓤 H (𝓣 .C) (𝓣 .Λ) code.function)
+      (cagberin_list.spec 𝓤 H A mem routine)
+  meets 𝓣 known-list known-number =
+      met 𝓤 H A W cagberin_list.ended stayed goes (cagberin_list.clauses 𝓤 H A mem routine) 𝓣 code.function
       (λ κs. (slice-vals, (uint-vals w32, (uint-vals w32, (slice-vals, (slice-vals, (ptr-vals, (ptr-vals, tt))))))))
       (λ κs. (
         shr-slice-tells (named 0) (κs .0) u8,
@@ -347,36 +361,6 @@ module _ {M : Type 1} (𝓤 : URA M) (H : Heap 𝓤) (A : Atoms 𝓤) (W : Given
       (a .1 .1 .1 .1 .1 .1 .0 .now)
       𝓣 known-list known-number (are .0 .0 .1) (are .1 .0 .1) (are .1 .1 .0 .1) (are .1 .1 .1 .0 .0 .1)
       (are .1 .1 .1 .1 .0 .0 .1)))
-
-  goes : AllGo 𝓤 H A W 5 (cagberin_list.signature .params) (cagberin_list.ended .kept) stayed
-  goes = (
-    goes-none-slice 𝓤 H A W 5 (0 ∷ []) tt (plain (λ _. u8)) yes,
-    (
-      goes-none 𝓤 H A W 5 (λ _. u32) yes (λ κs x f. refl),
-      (
-        goes-none 𝓤 H A W 5 (λ _. u32) yes (λ κs x f. refl),
-        (
-          goes-gave-slice 𝓤 H A W 5 1 tt (plain (λ _. R.the-row)),
-          (
-            goes-gave-slice 𝓤 H A W 5 2 tt (plain (λ _. u32)),
-            (
-              goes-gave-ref 𝓤 H A W 5 3 tt (plain (λ _. u32)),
-              (goes-gave-ref 𝓤 H A W 5 4 tt (plain (λ _. u32)), tt),
-            ),
-          ),
-        ),
-      ),
-    ),
-  )
-
-  meets : (𝓣 : Tables 𝓤 H) → Triple 𝓤 (𝓣 .C list-def.name) (Callee 𝓤 H A list.ended (list.clauses 𝓤 H A mem routine))
-      → Triple 𝓤 (𝓣 .C number-def.name) (Callee 𝓤 H A number.ended (number.clauses 𝓤 H A mem routine))
-      → Meets 𝓤 H A cagberin_list.signature (WpFn 𝓤 H (𝓣 .C) (𝓣 .Λ) code.function)
-      (cagberin_list.spec 𝓤 H A mem routine)
-  meets 𝓣 known-list known-number =
-      walk-meets 𝓤 H A cagberin_list.ended stayed W goes (cagberin_list.clauses 𝓤 H A mem routine)
-      (WpFn 𝓤 H (𝓣 .C) (𝓣 .Λ) code.function)
-      (WpFn-mono 𝓤 H (W .laws) 𝓣 code.function) (walks 𝓣 known-list known-number)
 
 pub cagberin-list-spec : {M : Type 1} → stated.statement M
 unfolding code.routine tablesOf

@@ -25,8 +25,8 @@ use types.Kit.{Given, ‵, _⊛_, ⋆, _$_, _∵_, !, qed, by, move, keep, drop,
 use types.Kit.{split, rewrite, fsplit, fjoin, suffices, frame, done}
 use types.Part.{whole, sub, look-in, agg}
 use types.Run.{look, init, stop, hop, fld, from, load, addr, and-then, no-more, assigns, land, returns, enter}
-use types.Run.{alloc0, alloc1, params1, pass1, pass0, forget, free1, free0}
-use sound.WpLaws.{FmC, fmOf, WpFn-mono}
+use types.Run.{alloc0, alloc1, params1, pass1, pass0}
+use sound.WpLaws.{FmC, fmOf}
 use denote.RattleType.{owns}
 use denote.Laws.{Is}
 use denote.Builtin.{u8, i64}
@@ -41,8 +41,7 @@ use denote.Triple.Spec.{Meets, tripleOf}
 use denote.Triple.Statement.{Triple}
 use denote.Triple.Table.{entered, cited}
 use denote.Triple.Walked.{says, Stays, stay-none-slice, gave-slice, walkOf, goes-none-slice, goes-gave-slice, AllGo}
-use denote.Triple.Walked.{Walks}
-use denote.Triple.Walked.{ends-at, walked, walk-meets}
+use denote.Triple.Walked.{ends-at}
 use denote.Exit.{yes}
 use Rattle.model.specs.Packed.{packMeaning, outputAfter}
 use Rattle.model.specs.Reply.{packReply}
@@ -51,6 +50,7 @@ use Rattle.model.specs.declared.PackAnswer.{PackAnswer}
 use Rattle.model.proofs.Entry as R
 use Rattle.model.proofs.PackAnswer as L
 use Rattle.model.proofs.PackAnswer.Laws as L′
+use Rattle.lent.proofs.Walk.{full, _◂_, leaves, met}
 use Rattle.lent.proofs.Lent as lent
 use Rattle.lent.proofs.Called.{Callee, lastOwn, calls}
 use Rattle.packed.proofs.pack as pack
@@ -182,28 +182,12 @@ module _ {M : Type 1} (𝓤 : URA M) (H : Heap 𝓤) (A : Atoms 𝓤) (W : Given
         -- [the number; the tokens; the last values of `pack`; the entries; the locals]
         land ! (from ! (stop !)) (init ! 14 refl (sint-lawful 𝓤 H A W w64 .typed z _ (counted .typed) .0)) $
         rewrite ! 14 (λ (w : Val). ‵ (fat fullShare (tyInt w64) l₀ 0 w)) (counted .value) refl $
-        returns ! (look ! 14 refl) $ forget ! 14 refl $ forget ! 12 refl $ forget ! 10 refl $ forget ! 8 refl $
-        forget ! 6 refl $ forget ! 4 refl $
-        move ! (14 ∷ 15 ∷ []) $ free1 ! $ move ! (12 ∷ 13 ∷ []) $ free1 ! $ move ! (10 ∷ 11 ∷ []) $ free1 ! $
-        move ! (8 ∷ 9 ∷ []) $ free1 ! $ move ! (6 ∷ 7 ∷ []) $ free1 ! $ move ! (4 ∷ 5 ∷ []) $ free1 ! $ free0 ! $
+        returns ! (look ! 14 refl) $ leaves ! 14 (full ◂ full ◂ full ◂ full ◂ full ◂ full ◂ tt) $
         by ! (exits a (ws .1 .0) z (hands .kept .1 .0 .1) (hands .ensured) (counted .ensured)))
         )))))))
 
 module _ {M : Type 1} (𝓤 : URA M) (H : Heap 𝓤) (A : Atoms 𝓤) (W : Given 𝓤 H A) (mem : Memory → SProp 𝓤)
     (run : Routine → Fun 𝓤) where
-  walks : (𝓣 : Tables 𝓤 H) → Triple 𝓤 (𝓣 .C pack-def.name) (Callee 𝓤 H A pack.ended (pack.clauses 𝓤 H A mem run))
-      → Triple 𝓤 (𝓣 .C number-def.name) (Callee 𝓤 H A number.ended (number.clauses 𝓤 H A mem run))
-      → Walks 𝓤 H A cagberin_pack.ended stayed (WpFn 𝓤 H (𝓣 .C) (𝓣 .Λ) code.function)
-      (cagberin_pack.clauses 𝓤 H A mem run)
-  walks 𝓣 known-pack known-number =
-      walked 𝓤 H A cagberin_pack.ended stayed (cagberin_pack.clauses 𝓤 H A mem run)
-      (WpFn 𝓤 H (𝓣 .C) (𝓣 .Λ) code.function)
-      (λ κs. (slice-vals, (slice-vals, tt)))
-      (λ κs. (shr-slice-tells (named 0) (κs .0) R.the-row, (mut-slice-tells (named 1) (κs .1 .0) u8, tt)))
-      (λ κs qs bounds a g are. via 𝓤 _ (fst∗ 𝓤 _ (emp 𝓤))
-      (walk 𝓤 H A W mem run (κs .0) (κs .1 .0) (qs .0) (qs .1 .0) (a .0) (a .1 .0 .ptr .0) (a .1 .0 .ptr .1)
-      (a .1 .0 .name) (a .1 .0 .now) 𝓣 known-pack known-number (are .0 .0 .1) (are .1 .0 .0 .1)))
-
   goes : AllGo 𝓤 H A W 2 (cagberin_pack.signature .params) (cagberin_pack.ended .kept) stayed
   goes = (
     goes-none-slice 𝓤 H A W 2 (0 ∷ []) tt (plain (λ _. R.the-row)) yes,
@@ -214,9 +198,12 @@ module _ {M : Type 1} (𝓤 : URA M) (H : Heap 𝓤) (A : Atoms 𝓤) (W : Given
       → Triple 𝓤 (𝓣 .C number-def.name) (Callee 𝓤 H A number.ended (number.clauses 𝓤 H A mem run))
       → Meets 𝓤 H A cagberin_pack.signature (WpFn 𝓤 H (𝓣 .C) (𝓣 .Λ) code.function) (cagberin_pack.spec 𝓤 H A mem run)
   meets 𝓣 known-pack known-number =
-      walk-meets 𝓤 H A cagberin_pack.ended stayed W goes (cagberin_pack.clauses 𝓤 H A mem run)
-      (WpFn 𝓤 H (𝓣 .C) (𝓣 .Λ) code.function)
-      (WpFn-mono 𝓤 H (W .laws) 𝓣 code.function) (walks 𝓣 known-pack known-number)
+      met 𝓤 H A W cagberin_pack.ended stayed goes (cagberin_pack.clauses 𝓤 H A mem run) 𝓣 code.function
+      (λ κs. (slice-vals, (slice-vals, tt)))
+      (λ κs. (shr-slice-tells (named 0) (κs .0) R.the-row, (mut-slice-tells (named 1) (κs .1 .0) u8, tt)))
+      (λ κs qs bounds a g are. via 𝓤 _ (fst∗ 𝓤 _ (emp 𝓤))
+      (walk 𝓤 H A W mem run (κs .0) (κs .1 .0) (qs .0) (qs .1 .0) (a .0) (a .1 .0 .ptr .0) (a .1 .0 .ptr .1)
+      (a .1 .0 .name) (a .1 .0 .now) 𝓣 known-pack known-number (are .0 .0 .1) (are .1 .0 .0 .1)))
 
 pub cagberin-pack-spec : {M : Type 1} → stated.statement M
 unfolding code.routine tablesOf

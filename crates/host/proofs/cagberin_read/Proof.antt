@@ -26,8 +26,8 @@ use types.Kit.{split, rewrite, fsplit, fjoin, suffices, frame, done}
 use types.Part.{whole, sub, look-in, agg}
 use types.Run.{look, init, stop, hop, fld, from as at-place, load, addr, and-then, no-more, assigns, land, returns}
 use types.Run.{enter}
-use types.Run.{alloc0, alloc1, params1, pass1, pass0, forget, free1, free0}
-use sound.WpLaws.{FmC, fmOf, WpFn-mono}
+use types.Run.{alloc0, alloc1, params1, pass1, pass0}
+use sound.WpLaws.{FmC, fmOf}
 use denote.RattleType.{owns}
 use denote.Laws.{Is}
 use denote.Plain.{uint-vals, uint-tells, uint-makes}
@@ -43,7 +43,7 @@ use denote.Triple.Spec.{Meets, tripleOf}
 use denote.Triple.Statement.{Triple}
 use denote.Triple.Table.{entered, cited}
 use denote.Triple.Walked.{says, Stays, stay-none-slice, stay-none, gave-slice, walkOf, goes-none-slice, goes-none}
-use denote.Triple.Walked.{goes-gave-slice, AllGo, Walks, ends-at, walked, walk-meets}
+use denote.Triple.Walked.{goes-gave-slice, AllGo, ends-at}
 use denote.Exit.{yes}
 use Rattle.model.specs.Packed.{readMeaning, runRead}
 use Rattle.model.specs.Reply.{entriesReply}
@@ -52,6 +52,7 @@ use Rattle.model.specs.declared.EntriesAnswer.{EntriesAnswer}
 use Rattle.model.proofs.Entry as R
 use Rattle.model.proofs.EntriesAnswer as L
 use Rattle.model.proofs.EntriesAnswer.Laws as L′
+use Rattle.lent.proofs.Walk.{full, _◂_, leaves, met}
 use Rattle.lent.proofs.Lent as lent
 use Rattle.lent.proofs.Called.{Callee, lastOwn, calls}
 use Rattle.packed.proofs.read as read
@@ -190,33 +191,12 @@ module _ {M : Type 1} (𝓤 : URA M) (H : Heap 𝓤) (A : Atoms 𝓤) (W : Given
         -- [the number; the tokens; the last values of `read`; the file; the locals]
         land ! (at-place ! (stop !)) (init ! 16 refl (sint-lawful 𝓤 H A W w64 .typed z _ (counted .typed) .0)) $
         rewrite ! 16 (λ (w : Val). ‵ (fat fullShare (tyInt w64) l₀ 0 w)) (counted .value) refl $
-        returns ! (look ! 16 refl) $ forget ! 16 refl $ forget ! 14 refl $ forget ! 12 refl $ forget ! 10 refl $
-        forget ! 8 refl $ forget ! 6 refl $ forget ! 4 refl $
-        move ! (16 ∷ 17 ∷ []) $ free1 ! $ move ! (14 ∷ 15 ∷ []) $ free1 ! $ move ! (12 ∷ 13 ∷ []) $ free1 ! $
-        move ! (10 ∷ 11 ∷ []) $ free1 ! $ move ! (8 ∷ 9 ∷ []) $ free1 ! $ move ! (6 ∷ 7 ∷ []) $ free1 ! $
-        move ! (4 ∷ 5 ∷ []) $ free1 ! $ free0 ! $
+        returns ! (look ! 16 refl) $ leaves ! 16 (full ◂ full ◂ full ◂ full ◂ full ◂ full ◂ full ◂ tt) $
         by ! (exits a (ws .1 .1 .0) z (hands .kept .1 .1 .0 .1) (hands .ensured) (counted .ensured) gf))
         ))))))))
 
 module _ {M : Type 1} (𝓤 : URA M) (H : Heap 𝓤) (A : Atoms 𝓤) (W : Given 𝓤 H A) (mem : Memory → SProp 𝓤)
     (routine : Routine → Fun 𝓤) where
-  walks : (𝓣 : Tables 𝓤 H) → Triple 𝓤 (𝓣 .C read-def.name) (Callee 𝓤 H A read.ended (read.clauses 𝓤 H A mem routine))
-      → Triple 𝓤 (𝓣 .C number-def.name) (Callee 𝓤 H A number.ended (number.clauses 𝓤 H A mem routine))
-      → Walks 𝓤 H A cagberin_read.ended stayed (WpFn 𝓤 H (𝓣 .C) (𝓣 .Λ) code.function)
-      (cagberin_read.clauses 𝓤 H A mem routine)
-  walks 𝓣 known-read known-number =
-      walked 𝓤 H A cagberin_read.ended stayed (cagberin_read.clauses 𝓤 H A mem routine)
-      (WpFn 𝓤 H (𝓣 .C) (𝓣 .Λ) code.function)
-      (λ κs. (slice-vals, (uint-vals w64, (slice-vals, tt))))
-      (λ κs. (
-        shr-slice-tells (named 0) (κs .0) u8,
-        (uint-tells w64, (mut-slice-tells (named 1) (κs .1 .0) R.the-row, tt)),
-      ))
-      (λ κs qs bounds a g are. via 𝓤 _ (fst∗ 𝓤 _ (emp 𝓤))
-      (walk 𝓤 H A W mem routine (κs .0) (κs .1 .0) (qs .0) (qs .1 .0) (a .0) (a .1 .0)
-      (a .1 .1 .0 .ptr .0) (a .1 .1 .0 .ptr .1) (a .1 .1 .0 .name) (a .1 .1 .0 .now)
-      𝓣 known-read known-number (are .0 .0 .1) (are .1 .0 .1) (are .1 .1 .0 .0 .1)))
-
   goes : AllGo 𝓤 H A W 2 (cagberin_read.signature .params) (cagberin_read.ended .kept) stayed
   goes = (
     goes-none-slice 𝓤 H A W 2 (0 ∷ []) tt (plain (λ _. u8)) yes,
@@ -231,9 +211,16 @@ module _ {M : Type 1} (𝓤 : URA M) (H : Heap 𝓤) (A : Atoms 𝓤) (W : Given
       → Meets 𝓤 H A cagberin_read.signature (WpFn 𝓤 H (𝓣 .C) (𝓣 .Λ) code.function)
       (cagberin_read.spec 𝓤 H A mem routine)
   meets 𝓣 known-read known-number =
-      walk-meets 𝓤 H A cagberin_read.ended stayed W goes (cagberin_read.clauses 𝓤 H A mem routine)
-      (WpFn 𝓤 H (𝓣 .C) (𝓣 .Λ) code.function)
-      (WpFn-mono 𝓤 H (W .laws) 𝓣 code.function) (walks 𝓣 known-read known-number)
+      met 𝓤 H A W cagberin_read.ended stayed goes (cagberin_read.clauses 𝓤 H A mem routine) 𝓣 code.function
+      (λ κs. (slice-vals, (uint-vals w64, (slice-vals, tt))))
+      (λ κs. (
+        shr-slice-tells (named 0) (κs .0) u8,
+        (uint-tells w64, (mut-slice-tells (named 1) (κs .1 .0) R.the-row, tt)),
+      ))
+      (λ κs qs bounds a g are. via 𝓤 _ (fst∗ 𝓤 _ (emp 𝓤))
+      (walk 𝓤 H A W mem routine (κs .0) (κs .1 .0) (qs .0) (qs .1 .0) (a .0) (a .1 .0)
+      (a .1 .1 .0 .ptr .0) (a .1 .1 .0 .ptr .1) (a .1 .1 .0 .name) (a .1 .1 .0 .now)
+      𝓣 known-read known-number (are .0 .0 .1) (are .1 .0 .1) (are .1 .1 .0 .0 .1)))
 
 pub cagberin-read-spec : {M : Type 1} → stated.statement M
 unfolding code.routine tablesOf

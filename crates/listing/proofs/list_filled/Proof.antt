@@ -26,9 +26,9 @@ use types.Kit.{Given, ‵, _⊛_, ⋆, given, some, later, _$_, _∵_, !, qed, b
 use types.Kit.{split, join, pick, learn, rewrite, fsplit, fjoin, suffices, frame, await, done}
 use types.Part.{whole, sub, look-in, agg}
 use types.Run.{look, init, stop, hop, fld, from, load, lit, addr, and-then, no-more, of-opd, assigns, land, enter}
-use types.Run.{alloc0, params1, pass1, pass0, forget, alloc1, free1, free0}
+use types.Run.{alloc0, params1, pass1, pass0, alloc1}
 use types.Tokens.{lft-new, lft-end}
-use sound.WpLaws.{FmC, fmOf, WpFn-mono}
+use sound.WpLaws.{FmC, fmOf}
 use denote.RattleType.{owns}
 use denote.Laws.{Is}
 use denote.Plain.{uint-vals, uint-tells, uint-makes}
@@ -44,8 +44,8 @@ use denote.Triple.Entry.{Vals, onEntry}
 use denote.Triple.Spec.{Meets, tripleOf}
 use denote.Triple.Statement.{Triple}
 use denote.Triple.Table.{entered, cited}
-use denote.Triple.Walked.{says, Stays, stay-none-slice, stay-none, walkOf, goes-none-slice, goes-none, AllGo, Walks}
-use denote.Triple.Walked.{ends-at, walked, walk-meets}
+use denote.Triple.Walked.{says, Stays, stay-none-slice, stay-none, walkOf, goes-none-slice, goes-none, AllGo}
+use denote.Triple.Walked.{ends-at}
 use denote.Exit.{yes}
 use denote.Array.{Array, arrayVal, array-lawful}
 use denote.Plain.{uint-lawful}
@@ -74,6 +74,7 @@ use Rattle.listing.specs.Steps.{Listed, seen}
 use Rattle.listing.specs.Filled.{runBound, cap}
 use Rattle.listing.proofs.Filled as F
 use Rattle.listing.proofs.Filled.Laws as F′
+use Rattle.lent.proofs.Walk.{full, _◂_, leaves, met}
 use Rattle.lent.proofs.Lent as lent
 use Rattle.lent.proofs.Local.{row-cut, row-join, array-out, array-in, array-under, each-replicate}
 use Rattle.listing.proofs.ByValue.{zeros, cap-within, fresh, rest, run-parts, run-length, filled-by}
@@ -374,46 +375,14 @@ module _ {M : Type 1} (𝓤 : URA M) (H : Heap 𝓤) (A : Atoms 𝓤) (W : Given
         (init ! 32 {τ = F′.mir} {b = l₀} {o = 0} {v = mach a (ls .1 .1 .1 .0 ++ rest room)} refl
         (filled-typed a (ls .1 .1 .1 .0 ++ rest room) (filled-is a (ls .1 .1 .1 .0 ++ rest room)
         (hands .settled) is-run))) $
-        returns ! (look ! 32 refl) $ forget ! 32 refl $ forget ! 30 refl $ forget ! 28 refl $ forget ! 26 refl $
-        forget ! 24 refl $ forget ! 22 refl $ forget ! 20 refl $ forget ! 18 refl $ forget ! 16 refl $
-        forget ! 14 refl $ forget ! 12 refl $ forget ! 10 refl $ forget ! 8 refl $ forget ! 6 refl $
-        forget ! 4 refl $ move ! (32 ∷ 33 ∷ []) $ free1 ! $ move ! (30 ∷ 31 ∷ []) $ free1 ! $
-        move ! (28 ∷ 29 ∷ []) $ free1 ! $ move ! (26 ∷ 27 ∷ []) $ free1 ! $ move ! (24 ∷ 25 ∷ []) $ free1 ! $
-        move ! (22 ∷ 23 ∷ []) $ free1 ! $ move ! (20 ∷ 21 ∷ []) $ free1 ! $ move ! (18 ∷ 19 ∷ []) $ free1 ! $
-        move ! (16 ∷ 17 ∷ []) $ free1 ! $ move ! (14 ∷ 15 ∷ []) $ free1 ! $ move ! (12 ∷ 13 ∷ []) $ free1 ! $
-        move ! (10 ∷ 11 ∷ []) $ free1 ! $ move ! (8 ∷ 9 ∷ []) $ free1 ! $ move ! (6 ∷ 7 ∷ []) $ free1 ! $
-        move ! (4 ∷ 5 ∷ []) $ free1 ! $ free0 ! $
+        returns ! (look ! 32 refl) $ leaves ! 32 (full ◂ full ◂ full ◂ full ◂ full ◂ full ◂ full ◂ full ◂ full ◂ full ◂
+        full ◂ full ◂ full ◂ full ◂ full ◂ tt) $
         by ! (exits a (ls .1 .1 .1 .0) (ls .1 .1 .1 .1 .0) (hands .kept .1 .1 .1 .0 .1) (hands .kept .1 .1 .1 .1 .0 .1)
         (hands .ensured) (filled-is a
         (ls .1 .1 .1 .0 ++ rest room) (hands .settled) is-run) gp gb gr)))))))))))))))))))))
 
 module _ {M : Type 1} (𝓤 : URA M) (H : Heap 𝓤) (A : Atoms 𝓤) (W : Given 𝓤 H A) (mem : Memory → SProp 𝓤)
     (run : Routine → Fun 𝓤) where
-  walks : (𝓣 : Tables 𝓤 H) → Triple 𝓤 (𝓣 .C capped-def.name) (Callee 𝓤 H A capped.ended (capped.clauses 𝓤 H A mem run))
-      → Triple 𝓤 (𝓣 .C list-def.name) (Callee 𝓤 H A list.ended (list.clauses 𝓤 H A mem run))
-      → Walks 𝓤 H A list_filled.ended stayed (WpFn 𝓤 H (𝓣 .C) (𝓣 .Λ) code.function) (list_filled.clauses 𝓤 H A mem run)
-  walks 𝓣 known-capped known-list =
-      walked 𝓤 H A list_filled.ended stayed (list_filled.clauses 𝓤 H A mem run) (WpFn 𝓤 H (𝓣 .C) (𝓣 .Λ) code.function)
-      (λ κs. (slice-vals, (uint-vals w32, (uint-vals w32, (uint-vals w64, (slice-vals, tt))))))
-      (λ κs. (
-        shr-slice-tells (named 0) (κs .0) u8,
-        (
-          uint-tells w32,
-          (
-            uint-tells w32,
-            (
-              uint-tells w64,
-              (mut-slice-tells (named 1) (κs .1 .0) u32, tt),
-            ),
-          ),
-        ),
-      ))
-      (λ κs qs bounds a g are. via 𝓤 _ (fst∗ 𝓤 _ (emp 𝓤))
-      (walk 𝓤 H A W mem run (κs .0) (κs .1 .0) (qs .0) (qs .1 .0) (a .0) (a .1 .0) (a .1 .1 .0) (a .1 .1 .1 .0)
-      (a .1 .1 .1 .1 .0 .ptr .0) (a .1 .1 .1 .1 .0 .ptr .1) (a .1 .1 .1 .1 .0 .name) (a .1 .1 .1 .1 .0 .now)
-      𝓣 known-capped known-list (are .0 .0 .1) (are .1 .0 .1) (are .1 .1 .0 .1) (are .1 .1 .1 .0 .1)
-      (are .1 .1 .1 .1 .0 .0 .1)))
-
   goes : AllGo 𝓤 H A W 2 (list_filled.signature .params) (list_filled.ended .kept) stayed
   goes = (
     goes-none-slice 𝓤 H A W 2 (0 ∷ []) tt (plain (λ _. u8)) yes,
@@ -434,9 +403,26 @@ module _ {M : Type 1} (𝓤 : URA M) (H : Heap 𝓤) (A : Atoms 𝓤) (W : Given
       → Triple 𝓤 (𝓣 .C list-def.name) (Callee 𝓤 H A list.ended (list.clauses 𝓤 H A mem run))
       → Meets 𝓤 H A list_filled.signature (WpFn 𝓤 H (𝓣 .C) (𝓣 .Λ) code.function) (list_filled.spec 𝓤 H A mem run)
   meets 𝓣 known-capped known-list =
-      walk-meets 𝓤 H A list_filled.ended stayed W goes (list_filled.clauses 𝓤 H A mem run)
-      (WpFn 𝓤 H (𝓣 .C) (𝓣 .Λ) code.function)
-      (WpFn-mono 𝓤 H (W .laws) 𝓣 code.function) (walks 𝓣 known-capped known-list)
+      met 𝓤 H A W list_filled.ended stayed goes (list_filled.clauses 𝓤 H A mem run) 𝓣 code.function
+      (λ κs. (slice-vals, (uint-vals w32, (uint-vals w32, (uint-vals w64, (slice-vals, tt))))))
+      (λ κs. (
+        shr-slice-tells (named 0) (κs .0) u8,
+        (
+          uint-tells w32,
+          (
+            uint-tells w32,
+            (
+              uint-tells w64,
+              (mut-slice-tells (named 1) (κs .1 .0) u32, tt),
+            ),
+          ),
+        ),
+      ))
+      (λ κs qs bounds a g are. via 𝓤 _ (fst∗ 𝓤 _ (emp 𝓤))
+      (walk 𝓤 H A W mem run (κs .0) (κs .1 .0) (qs .0) (qs .1 .0) (a .0) (a .1 .0) (a .1 .1 .0) (a .1 .1 .1 .0)
+      (a .1 .1 .1 .1 .0 .ptr .0) (a .1 .1 .1 .1 .0 .ptr .1) (a .1 .1 .1 .1 .0 .name) (a .1 .1 .1 .1 .0 .now)
+      𝓣 known-capped known-list (are .0 .0 .1) (are .1 .0 .1) (are .1 .1 .0 .1) (are .1 .1 .1 .0 .1)
+      (are .1 .1 .1 .1 .0 .0 .1)))
 
 pub list-filled-spec : {M : Type 1} → stated.statement M
 unfolding code.routine tablesOf

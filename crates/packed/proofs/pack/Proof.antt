@@ -31,9 +31,11 @@ use types.Kit.{Given, Item, Sq, runs, anyQ, atRet, ‵, raw, _⊛_, ⋆, some, l
 use types.Kit.{use1, use2, use3, split, join, pick, rewrite, fsplit, fjoin, suffices, frame, await, updating}
 use types.Kit.{now as at-once, done}
 use types.Part.{whole, sub, look-in, agg}
-use types.Run.{look, look-raw, store, init, forget, stop, hop, fld, from, load, lit, addr, and-then, no-more, of-opd, bin, assigns, first, skips, jumps, blocks, branches, exec, land, land-last, returns, enter, alloc1, alloc0, params1, pass1, pass0, free1, free0, Below, again, loops}
+use types.Run.{look, look-raw, store, init, forget, stop, hop, fld, from, load, lit, addr, and-then, no-more, of-opd}
+use types.Run.{bin, assigns, first, skips, jumps, blocks, branches, exec, land, land-last, returns, enter, alloc1}
+use types.Run.{alloc0, params1, pass1, pass0, Below, again, loops}
 use types.Tokens.{lft-new, lft-end}
-use sound.WpLaws.{FmC, fmOf, WpFn-mono}
+use sound.WpLaws.{FmC, fmOf}
 use denote.RattleType.{owns}
 use denote.Laws.{Is, shows}
 use denote.Memory.{pointee}
@@ -49,7 +51,7 @@ use denote.Triple.Entry.{Vals, onEntry}
 use denote.Triple.Spec.{Meets, tripleOf}
 use denote.Triple.Statement.{Triple}
 use denote.Triple.Table.{entered, cited}
-use denote.Triple.Walked.{says, Stays, stay-none-slice, stay-slice, walkOf, goes-none-slice, goes-slice, AllGo, Walks, ends-at, walked, walk-meets}
+use denote.Triple.Walked.{says, Stays, stay-none-slice, stay-slice, walkOf, goes-none-slice, goes-slice, AllGo, ends-at}
 use denote.Exit.{yes}
 use Rattle.model.specs.Entry.{entry}
 use Rattle.model.specs.declared.Entry.{Entry}
@@ -63,6 +65,7 @@ use Rattle.packing.specs.Packing.{Started, Stepped, steps}
 use Rattle.packing.proofs.Packing as P
 use Rattle.packing.proofs.Packing.Laws as P′
 use Rattle.packing.proofs.Passes.{Stands, stands-first, stands-ready, stands-next, stands-last}
+use Rattle.lent.proofs.Walk.{full, empty, _◂_, leaves, met}
 use Rattle.lent.proofs.Lent as lent
 use Rattle.packed.proofs.Rest.{after}
 use Rattle.lent.proofs.Called.{Callee, lastOwn, calls, calls-last}
@@ -384,7 +387,8 @@ module _ {M : Type 1} (𝓤 : URA M) (H : Heap 𝓤) (A : Atoms 𝓤) (W : Given
           move ! (0 ∷ 3 ∷ []) $ use2 W (later (‵ (outOwn (t .1)) ⊛ ‵ (flft κ₁ q₁)))
           (lent.shuts u8 b₁ o₁ 𝓤 H A W (named 1) κ₁ q₁ γ₁ out₀ (t .1) go (t .2 .long)) $ await ! tt $ split ! $
           -- [the output; its token; the entries; their token; the locals]
-          returns ! (look ! 32 refl) $ forget ! 32 refl $ forget ! 30 refl $ forget ! 28 refl $ forget ! 26 refl $ forget ! 24 refl $ forget ! 14 refl $ move ! (32 ∷ 33 ∷ []) $ free1 ! $ move ! (30 ∷ 31 ∷ []) $ free1 ! $ move ! (28 ∷ 29 ∷ []) $ free1 ! $ move ! (26 ∷ 27 ∷ []) $ free1 ! $ move ! (24 ∷ 25 ∷ []) $ free1 ! $ move ! (22 ∷ 23 ∷ []) $ free1 ! $ move ! (20 ∷ 21 ∷ []) $ free1 ! $ move ! (18 ∷ 19 ∷ []) $ free1 ! $ move ! (16 ∷ 17 ∷ []) $ free1 ! $ move ! (14 ∷ 15 ∷ []) $ free1 ! $ move ! (12 ∷ 13 ∷ []) $ free1 ! $ move ! (10 ∷ 11 ∷ []) $ free1 ! $ move ! (8 ∷ 9 ∷ []) $ free1 ! $ move ! (6 ∷ 7 ∷ []) $ free1 ! $ move ! (4 ∷ 5 ∷ []) $ free1 ! $ free0 ! $
+          returns ! (look ! 32 refl) $ leaves ! 32 (full ◂ full ◂ full ◂ full ◂ full ◂ empty ◂ empty ◂ empty ◂ empty ◂
+          full ◂ empty ◂ empty ◂ empty ◂ empty ◂ empty ◂ tt) $
           by ! (exits (t .0) (t .1) (t .2) (is-false (t .0 .going) z) (answer-is (t .0) (t .3))))
 
       -- the code up to the loop, with the output open
@@ -444,17 +448,6 @@ module _ {M : Type 1} (𝓤 : URA M) (H : Heap 𝓤) (A : Atoms 𝓤) (W : Given
         )))))))))))))))
 
 module _ {M : Type 1} (𝓤 : URA M) (H : Heap 𝓤) (A : Atoms 𝓤) (W : Given 𝓤 H A) (mem : Memory → SProp 𝓤) (run : Routine → Fun 𝓤) where
-  walks : (𝓣 : Tables 𝓤 H) → Triple 𝓤 (𝓣 .C start-def.name) (Callee 𝓤 H A start.ended (start.clauses 𝓤 H A mem run))
-      → Triple 𝓤 (𝓣 .C step-def.name) (Callee 𝓤 H A step.ended (step.clauses 𝓤 H A mem run))
-      → Walks 𝓤 H A pack.ended stayed (WpFn 𝓤 H (𝓣 .C) (𝓣 .Λ) code.function) (pack.clauses 𝓤 H A mem run)
-  walks 𝓣 known-start known-step =
-      walked 𝓤 H A pack.ended stayed (pack.clauses 𝓤 H A mem run) (WpFn 𝓤 H (𝓣 .C) (𝓣 .Λ) code.function)
-      (λ κs. (slice-vals, (slice-vals, tt)))
-      (λ κs. (shr-slice-tells (named 0) (κs .0) R.the-row, (mut-slice-tells (named 1) (κs .1 .0) u8, tt)))
-      (λ κs qs bounds a g are. via 𝓤 _ (fst∗ 𝓤 _ (emp 𝓤))
-      (walk 𝓤 H A W mem run (κs .0) (κs .1 .0) (qs .0) (qs .1 .0) (a .0 .ptr .0) (a .0 .ptr .1) (a .0 .name) (a .0 .now)
-      (a .1 .0 .ptr .0) (a .1 .0 .ptr .1) (a .1 .0 .name) (a .1 .0 .now) 𝓣 known-start known-step (are .0 .0 .1) (are .1 .0 .0 .1)))
-
   goes : AllGo 𝓤 H A W 2 (pack.signature .params) (pack.ended .kept) stayed
   goes = (goes-none-slice 𝓤 H A W 2 (0 ∷ []) tt (plain (λ _. R.the-row)) yes, (goes-slice 𝓤 H A W 2 1 tt (plain (λ _. u8)), tt))
 
@@ -462,8 +455,13 @@ module _ {M : Type 1} (𝓤 : URA M) (H : Heap 𝓤) (A : Atoms 𝓤) (W : Given
       → Triple 𝓤 (𝓣 .C step-def.name) (Callee 𝓤 H A step.ended (step.clauses 𝓤 H A mem run))
       → Meets 𝓤 H A pack.signature (WpFn 𝓤 H (𝓣 .C) (𝓣 .Λ) code.function) (pack.spec 𝓤 H A mem run)
   meets 𝓣 known-start known-step =
-      walk-meets 𝓤 H A pack.ended stayed W goes (pack.clauses 𝓤 H A mem run) (WpFn 𝓤 H (𝓣 .C) (𝓣 .Λ) code.function)
-      (WpFn-mono 𝓤 H (W .laws) 𝓣 code.function) (walks 𝓣 known-start known-step)
+      met 𝓤 H A W pack.ended stayed goes (pack.clauses 𝓤 H A mem run) 𝓣 code.function
+      (λ κs. (slice-vals, (slice-vals, tt)))
+      (λ κs. (shr-slice-tells (named 0) (κs .0) R.the-row, (mut-slice-tells (named 1) (κs .1 .0) u8, tt)))
+      (λ κs qs bounds a g are. via 𝓤 _ (fst∗ 𝓤 _ (emp 𝓤))
+      (walk 𝓤 H A W mem run (κs .0) (κs .1 .0) (qs .0) (qs .1 .0) (a .0 .ptr .0) (a .0 .ptr .1) (a .0 .name) (a .0 .now)
+      (a .1 .0 .ptr .0) (a .1 .0 .ptr .1) (a .1 .0 .name) (a .1 .0 .now) 𝓣 known-start known-step (are .0 .0 .1)
+      (are .1 .0 .0 .1)))
 
 pub pack-spec : {M : Type 1} → stated.statement M
 unfolding code.routine tablesOf

@@ -32,8 +32,8 @@ use types.Kit.{now as at-once, done}
 use types.Part.{whole, sub, look-in}
 use types.Run.{look, store, store-raw, init, forget, stop, hop, fld, from as at-place, load, lit, and-then, no-more}
 use types.Run.{of-opd, bin, assigns, assigns-last, first, skips, jumps, blocks, branches, exec, land, returns, enter, alloc1, alloc0}
-use types.Run.{params1, pass1, pass0, free1, free0, Below, again, loops}
-use sound.WpLaws.{FmC, fmOf, WpFn-mono}
+use types.Run.{params1, pass1, pass0, Below, again, loops}
+use sound.WpLaws.{FmC, fmOf}
 use denote.RattleType.{owns}
 use denote.Laws.{Is, shows}
 use denote.Memory.{pointee}
@@ -52,7 +52,7 @@ use denote.Triple.Spec.{Meets, tripleOf}
 use denote.Triple.Statement.{Triple}
 use denote.Triple.Table.{entered, cited}
 use denote.Triple.Walked.{says, Stays, stay-none-slice, stay-none, stay-slice, walkOf, goes-none-slice, goes-none}
-use denote.Triple.Walked.{goes-slice, AllGo, Walks, ends-at, walked, walk-meets}
+use denote.Triple.Walked.{goes-slice, AllGo, ends-at}
 use denote.Exit.{yes}
 use Rattle.model.specs.Entry.{entry}
 use Rattle.model.specs.Packed.{entryAt}
@@ -67,6 +67,7 @@ use Rattle.packed.specs.Filling.{Planned}
 use Rattle.unpacking.proofs.Plan as P
 use Rattle.unpacking.proofs.Plan.Laws as P′
 use Rattle.packed.proofs.Filling.{filled, filled-none, filled-length, filled-next, filled-all}
+use Rattle.lent.proofs.Walk.{full, empty, _◂_, leaves, met}
 use Rattle.lent.proofs.Lent as lent
 use Rattle.packed.proofs.Rest.{after}
 use Rattle.lent.proofs.Called.{Callee, calls}
@@ -364,13 +365,8 @@ module _ {M : Type 1} (𝓤 : URA M) (H : Heap 𝓤) (A : Atoms 𝓤) (W : Given
             (lent.shuts R.the-row b₁ o₁ 𝓤 H A W (named 1) κ₁ q₁ γ₁ run (nowRun s known is (t .0)) gr (run-same s known is t)) $
             await ! tt $ split ! $
             -- [the run; its token; the file; its token; the locals]
-            returns ! (look ! 26 refl) $ forget ! 26 refl $ forget ! 24 refl $ forget ! 22 refl $
-            forget ! 20 refl $ forget ! 18 refl $ forget ! 16 refl $ forget ! 14 refl $ forget ! 10 refl $
-            move ! (26 ∷ 27 ∷ []) $ free1 ! $ move ! (24 ∷ 25 ∷ []) $ free1 ! $ move ! (22 ∷ 23 ∷ []) $
-            free1 ! $ move ! (20 ∷ 21 ∷ []) $ free1 ! $ move ! (18 ∷ 19 ∷ []) $ free1 ! $
-            move ! (16 ∷ 17 ∷ []) $ free1 ! $ move ! (14 ∷ 15 ∷ []) $ free1 ! $ move ! (12 ∷ 13 ∷ []) $
-            free1 ! $ move ! (10 ∷ 11 ∷ []) $ free1 ! $ move ! (8 ∷ 9 ∷ []) $ free1 ! $ move ! (6 ∷ 7 ∷ []) $
-            free1 ! $ move ! (4 ∷ 5 ∷ []) $ free1 ! $ free0 ! $
+            returns ! (look ! 26 refl) $ leaves ! 26 (full ◂ full ◂ full ◂ full ◂ full ◂ full ◂ full ◂ empty ◂ full ◂
+            empty ◂ empty ◂ empty ◂ tt) $
             by ! (exits s known is t (nltb→le (t .0) (s .count) over) gf))
 
       -- the code up to the loop, with the run open
@@ -441,21 +437,6 @@ module _ {M : Type 1} (𝓤 : URA M) (H : Heap 𝓤) (A : Atoms 𝓤) (W : Given
         ))))))))))))
 
 module _ {M : Type 1} (𝓤 : URA M) (H : Heap 𝓤) (A : Atoms 𝓤) (W : Given 𝓤 H A) (mem : Memory → SProp 𝓤) (run : Routine → Fun 𝓤) where
-  walks : (𝓣 : Tables 𝓤 H) → Triple 𝓤 (𝓣 .C plan-def.name) (Callee 𝓤 H A planned.ended (planned.clauses 𝓤 H A mem run))
-      → Triple 𝓤 (𝓣 .C entry-def.name) (Callee 𝓤 H A entry-from.ended (entry-from.clauses 𝓤 H A mem run))
-      → Walks 𝓤 H A read.ended stayed (WpFn 𝓤 H (𝓣 .C) (𝓣 .Λ) code.function) (read.clauses 𝓤 H A mem run)
-  walks 𝓣 known-plan known-entry =
-      walked 𝓤 H A read.ended stayed (read.clauses 𝓤 H A mem run) (WpFn 𝓤 H (𝓣 .C) (𝓣 .Λ) code.function)
-      (λ κs. (slice-vals, (uint-vals w64, (slice-vals, tt))))
-      (λ κs. (
-        shr-slice-tells (named 0) (κs .0) u8,
-        (uint-tells w64, (mut-slice-tells (named 1) (κs .1 .0) R.the-row, tt)),
-      ))
-      (λ κs qs bounds a g are. via 𝓤 _ (fst∗ 𝓤 _ (emp 𝓤))
-      (walk 𝓤 H A W mem run (κs .0) (κs .1 .0) (qs .0) (qs .1 .0) (a .0) (a .1 .0)
-      (a .1 .1 .0 .ptr .0) (a .1 .1 .0 .ptr .1) (a .1 .1 .0 .name) (a .1 .1 .0 .now)
-      𝓣 known-plan known-entry (are .0 .0 .1) (are .1 .0 .1) (are .1 .1 .0 .0 .1)))
-
   goes : AllGo 𝓤 H A W 2 (read.signature .params) (read.ended .kept) stayed
   goes = (
     goes-none-slice 𝓤 H A W 2 (0 ∷ []) tt (plain (λ _. u8)) yes,
@@ -469,8 +450,16 @@ module _ {M : Type 1} (𝓤 : URA M) (H : Heap 𝓤) (A : Atoms 𝓤) (W : Given
       → Triple 𝓤 (𝓣 .C entry-def.name) (Callee 𝓤 H A entry-from.ended (entry-from.clauses 𝓤 H A mem run))
       → Meets 𝓤 H A read.signature (WpFn 𝓤 H (𝓣 .C) (𝓣 .Λ) code.function) (read.spec 𝓤 H A mem run)
   meets 𝓣 known-plan known-entry =
-      walk-meets 𝓤 H A read.ended stayed W goes (read.clauses 𝓤 H A mem run) (WpFn 𝓤 H (𝓣 .C) (𝓣 .Λ) code.function)
-      (WpFn-mono 𝓤 H (W .laws) 𝓣 code.function) (walks 𝓣 known-plan known-entry)
+      met 𝓤 H A W read.ended stayed goes (read.clauses 𝓤 H A mem run) 𝓣 code.function
+      (λ κs. (slice-vals, (uint-vals w64, (slice-vals, tt))))
+      (λ κs. (
+        shr-slice-tells (named 0) (κs .0) u8,
+        (uint-tells w64, (mut-slice-tells (named 1) (κs .1 .0) R.the-row, tt)),
+      ))
+      (λ κs qs bounds a g are. via 𝓤 _ (fst∗ 𝓤 _ (emp 𝓤))
+      (walk 𝓤 H A W mem run (κs .0) (κs .1 .0) (qs .0) (qs .1 .0) (a .0) (a .1 .0)
+      (a .1 .1 .0 .ptr .0) (a .1 .1 .0 .ptr .1) (a .1 .1 .0 .name) (a .1 .1 .0 .now)
+      𝓣 known-plan known-entry (are .0 .0 .1) (are .1 .0 .1) (are .1 .1 .0 .0 .1)))
 
 pub read-spec : {M : Type 1} → stated.statement M
 unfolding code.routine tablesOf

@@ -23,10 +23,10 @@ use contract.Running.{givenOf, tables, tablesOf}
 use types.Kit.{Given, ‵, _⊛_, ⋆, given, some, later, _$_, _∵_, !, qed, by, move, keep, drop, use1, use2}
 use types.Kit.{split, join, pick, learn, rewrite, fsplit, fjoin, suffices, frame, await, done}
 use types.Part.{whole, sub, look-in, agg}
-use types.Run.{look, init, forget, stop, hop, fld, from, load, addr, of-opd, and-then, no-more, assigns, land, returns}
-use types.Run.{enter, alloc1, alloc0, params1, pass1, pass0, free1, free0}
+use types.Run.{look, init, stop, hop, fld, from, load, addr, of-opd, and-then, no-more, assigns, land, returns}
+use types.Run.{enter, alloc1, alloc0, params1, pass1, pass0}
 use types.Tokens.{lft-new, lft-end}
-use sound.WpLaws.{FmC, fmOf, WpFn-mono}
+use sound.WpLaws.{FmC, fmOf}
 use denote.RattleType.{owns}
 use denote.Array.{Array, arrayVal, array-vals, array-tells, array-typed, array-makes}
 use denote.Index.{place}
@@ -43,8 +43,7 @@ use denote.Triple.Clauses.{Lasts, lasts}
 use denote.Triple.Entry.{Vals, onEntry}
 use denote.Triple.Spec.{Meets, tripleOf}
 use denote.Triple.Table.{entered, cited}
-use denote.Triple.Walked.{says, needs, Stays, stay-none, gave-slice, walkOf, goes-none, goes-gave-slice, Walks, ends-at}
-use denote.Triple.Walked.{walked, walk-meets}
+use denote.Triple.Walked.{says, needs, Stays, stay-none, gave-slice, walkOf, goes-none, goes-gave-slice, ends-at}
 use denote.Exit.{yes}
 use Rattle.model.specs.Reply.{packReply}
 use Rattle.model.specs.Packed.{packMeaning, outputAfter}
@@ -54,6 +53,7 @@ use Rattle.model.proofs.Entry as R
 use Rattle.model.proofs.Entry.Laws as R′
 use Rattle.model.proofs.PackAnswer as L
 use Rattle.model.proofs.PackAnswer.Laws as L′
+use Rattle.lent.proofs.Walk.{full, _◂_, leaves, met}
 use Rattle.lent.proofs.Lent as lent
 use Rattle.lent.proofs.Local.{row-cut, row-join, array-row, array-in}
 use Rattle.lent.proofs.Called.{calls}
@@ -232,20 +232,23 @@ module _ {M : Type 1} (𝓤 : URA M) (H : Heap 𝓤) (A : Atoms 𝓤) (W : Given
         land ! (from ! (stop !)) (init ! 19 refl (enum.lawful L.the-type L′.the-laws 𝓤 H A W tt .typed r _
         (hands .typed) .0)) $
         rewrite ! 19 (λ (w : Val). ‵ (fat fullShare L′.mir l₀ 0 w)) (hands .value) refl $
-        returns ! (look ! 19 refl) $ forget ! 19 refl $ forget ! 17 refl $ forget ! 15 refl $ forget ! 13 refl $
-        forget ! 11 refl $ forget ! 9 refl $ forget ! 7 refl $ forget ! 5 refl $ forget ! 3 refl $
-        move ! (19 ∷ 20 ∷ []) $ free1 ! $ move ! (17 ∷ 18 ∷ []) $ free1 ! $ move ! (15 ∷ 16 ∷ []) $ free1 ! $
-        move ! (13 ∷ 14 ∷ []) $ free1 ! $ move ! (11 ∷ 12 ∷ []) $ free1 ! $ move ! (9 ∷ 10 ∷ []) $ free1 ! $
-        move ! (7 ∷ 8 ∷ []) $ free1 ! $ move ! (5 ∷ 6 ∷ []) $ free1 ! $ move ! (3 ∷ 4 ∷ []) $ free1 ! $ free0 ! $
+        returns ! (look ! 19 refl) $ leaves ! 19 (full ◂ full ◂ full ◂ full ◂ full ◂ full ◂ full ◂ full ◂ full ◂ tt) $
         by ! (exits l₄ ν δ r (ws .1 .0) (hands .ensured) (hands .kept .1 .0 .1) is gk))))
         ))))))))))
 
 module _ {M : Type 1} (𝓤 : URA M) (H : Heap 𝓤) (A : Atoms 𝓤) (W : Given 𝓤 H A) (mem : Memory → SProp 𝓤)
     (run : Routine → Fun 𝓤) where
-  walks : (C : Calls 𝓤 H) (Λ : Loops 𝓤 H) → FmC 𝓤 H (W .laws) C → Triple 𝓤 (C callee-def.name) (Pack 𝓤 H A mem run)
-      → Walks 𝓤 H A it.ended stayed (WpFn 𝓤 H C Λ code.function) (it.clauses 𝓤 H A mem run)
-  walks C Λ fm known =
-      walked 𝓤 H A it.ended stayed (it.clauses 𝓤 H A mem run) (WpFn 𝓤 H C Λ code.function)
+  meets : (𝓣 : Tables 𝓤 H) → Triple 𝓤 (𝓣 .C callee-def.name) (Pack 𝓤 H A mem run)
+      → Meets 𝓤 H A it.signature (WpFn 𝓤 H (𝓣 .C) (𝓣 .Λ) code.function) (it.spec 𝓤 H A mem run)
+  meets 𝓣 known =
+      met 𝓤 H A W it.ended stayed (
+        goes-none 𝓤 H A W 1 (λ _. Array R.the-row 3) yes (λ κs x f. refl),
+        (
+          goes-none 𝓤 H A W 1 (λ _. usize) yes (λ κs x f. refl),
+          (goes-gave-slice 𝓤 H A W 1 0 tt (plain (λ _. u8)), tt),
+        ),
+      )
+      (it.clauses 𝓤 H A mem run) 𝓣 code.function
       (λ κs. (arrayVals, (uint-vals w64, (slice-vals, tt))))
       (λ κs. (
         array-tells R.the-row (struct.vals R.the-type R′.the-laws) (struct.tells R.the-type R′.the-laws) 3,
@@ -253,23 +256,10 @@ module _ {M : Type 1} (𝓤 : URA M) (H : Heap 𝓤) (A : Atoms 𝓤) (W : Given
       ))
       (λ κs qs bounds a g are. needs 𝓤 (a .1 .0 ≤ 3) _ (λ le.
       walk 𝓤 H A W mem run (κs .0) (qs .0) (a .0) (a .1 .0) (a .1 .1 .0 .ptr .0) (a .1 .1 .0 .ptr .1)
-      (a .1 .1 .0 .name) (a .1 .1 .0 .now) C Λ fm known le (are .0)
+      (a .1 .1 .0 .name) (a .1 .1 .0 .now) (𝓣 .C) (𝓣 .Λ) (fmOf 𝓤 H (W .laws) 𝓣) known le (are .0)
       (array-typed R.the-row (struct.lawful R.the-type R′.the-laws 𝓤 H A W .typed) 3 (a .0) (arrayVals (a .0)) (are .0)
       .0)
       (are .1 .0 .1) (are .1 .1 .0 .0 .1)))
-
-  meets : (𝓣 : Tables 𝓤 H) → Triple 𝓤 (𝓣 .C callee-def.name) (Pack 𝓤 H A mem run)
-      → Meets 𝓤 H A it.signature (WpFn 𝓤 H (𝓣 .C) (𝓣 .Λ) code.function) (it.spec 𝓤 H A mem run)
-  meets 𝓣 known =
-      walk-meets 𝓤 H A it.ended stayed W (
-        goes-none 𝓤 H A W 1 (λ _. Array R.the-row 3) yes (λ κs x f. refl),
-        (
-          goes-none 𝓤 H A W 1 (λ _. usize) yes (λ κs x f. refl),
-          (goes-gave-slice 𝓤 H A W 1 0 tt (plain (λ _. u8)), tt),
-        ),
-      )
-      (it.clauses 𝓤 H A mem run) (WpFn 𝓤 H (𝓣 .C) (𝓣 .Λ) code.function) (WpFn-mono 𝓤 H (W .laws) 𝓣 code.function)
-      (walks (𝓣 .C) (𝓣 .Λ) (fmOf 𝓤 H (W .laws) 𝓣) known)
 
 pub pack-first-spec : {M : Type 1} → stated.statement M
 unfolding code.routine tablesOf

@@ -31,8 +31,8 @@ use types.Kit.{split, join, rewrite, fsplit, fjoin, suffices, frame, done}
 use types.Run.{look, store, init, forget, stop, from, load, lit, unit-lit, of-opd, bin, and-then, no-more, assigns}
 use types.Run.{assigns-last}
 use types.Run.{first, skips, jumps, blocks, branches, exec, land, returns, enter, alloc1, alloc0, params1, pass1, pass0}
-use types.Run.{free1, free0, Below, again, loops}
-use sound.WpLaws.{FmC, fmOf, WpFn-mono}
+use types.Run.{Below, again, loops}
+use sound.WpLaws.{FmC, fmOf}
 use denote.RattleType.{owns}
 use denote.Laws.{Is}
 use denote.Plain.{uint-vals, uint-tells, uint-makes, nothing-tells, nothing-makes, nothing-lawful}
@@ -47,8 +47,7 @@ use denote.Triple.Entry.{Vals, onEntry}
 use denote.Triple.Spec.{Meets, tripleOf}
 use denote.Triple.Statement.{Contract, Triple}
 use denote.Triple.Table.{entered, cited}
-use denote.Triple.Walked.{Stays, stay-none-slice, stay-none, walkOf, goes-none-slice, goes-none, Walks, ends-at}
-use denote.Triple.Walked.{walked, walk-meets}
+use denote.Triple.Walked.{Stays, stay-none-slice, stay-none, walkOf, goes-none-slice, goes-none, ends-at}
 use denote.Exit.{yes}
 use Rattle.model.specs.declared.OpenAnswer.{OpenAnswer}
 use Rattle.model.specs.declared.ReadAnswer.{ReadAnswer}
@@ -62,6 +61,7 @@ use Rattle.packed.proofs.Reader as T
 use Rattle.packed.proofs.Reader.Laws as T′
 use Rattle.packed.proofs.Held.{readerRow, reader-tells, answerVal, readerType, readerVal, readerOwn}
 use Rattle.packed.proofs.Rest.{after}
+use Rattle.lent.proofs.Walk.{full, empty, _◂_, leaves, met}
 use Rattle.lent.proofs.Called.{calls}
 use Rattle.packed.proofs.start as start
 use Rattle.packed.proofs.start.Symbol as start-def
@@ -318,13 +318,8 @@ module _ {M : Type 1} (𝓤 : URA M) (H : Heap 𝓤) (A : Atoms 𝓤) (W : Given
           steps t (ltb→lt (t .0) count less))
           (λ over. jumps ! $ exec ! C Λ E mir.t-9 (atRet E Post) $
           assigns ! (of-opd ! (unit-lit !)) (from ! (stop !)) (init ! 31 refl (tt, tt)) $
-          returns ! (look ! 31 refl) $ forget ! 31 refl $ forget ! 29 refl $ forget ! 27 refl $ forget ! 25 refl $
-          forget ! 23 refl $ forget ! 11 refl $
-          move ! (31 ∷ 32 ∷ []) $ free1 ! $ move ! (29 ∷ 30 ∷ []) $ free1 ! $ move ! (27 ∷ 28 ∷ []) $ free1 ! $
-          move ! (25 ∷ 26 ∷ []) $ free1 ! $ move ! (23 ∷ 24 ∷ []) $ free1 ! $ move ! (21 ∷ 22 ∷ []) $ free1 ! $
-          move ! (19 ∷ 20 ∷ []) $ free1 ! $ move ! (17 ∷ 18 ∷ []) $ free1 ! $ move ! (15 ∷ 16 ∷ []) $ free1 ! $
-          move ! (13 ∷ 14 ∷ []) $ free1 ! $ move ! (11 ∷ 12 ∷ []) $ free1 ! $ move ! (9 ∷ 10 ∷ []) $ free1 ! $
-          move ! (7 ∷ 8 ∷ []) $ free1 ! $ move ! (5 ∷ 6 ∷ []) $ free1 ! $ move ! (3 ∷ 4 ∷ []) $ free1 ! $ free0 ! $
+          returns ! (look ! 31 refl) $ leaves ! 31 (full ◂ full ◂ full ◂ full ◂ full ◂ empty ◂ empty ◂ empty ◂ empty ◂
+          empty ◂ full ◂ empty ◂ empty ◂ empty ◂ empty ◂ tt) $
           keep ! (0 ∷ 2 ∷ []) $ by ! (exits gc))
 
       begins : Sq W (token ∷ ‵ fileOwn ∷ free-locals (room (tyInt w32) l₄ (room readerTy l₃ given-locals)))
@@ -403,23 +398,19 @@ module _ {M : Type 1} (𝓤 : URA M) (H : Heap 𝓤) (A : Atoms 𝓤) (W : Given
     (known-next : Triple 𝓤 (𝓣 .C next-def.name) (Next 𝓤 H A mem run))
     (known-say : Triple 𝓤 (𝓣 .C say-def.name) (Say 𝓤 H A mem run))
     (known-advance : Triple 𝓤 (𝓣 .C advance-def.name) (Advance 𝓤 H A mem run)) where
-  walks : Walks 𝓤 H A it.ended stayed (WpFn 𝓤 H (𝓣 .C) (𝓣 .Λ) code.function) (it.clauses 𝓤 H A mem run)
-  walks =
-      walked 𝓤 H A it.ended stayed (it.clauses 𝓤 H A mem run) (WpFn 𝓤 H (𝓣 .C) (𝓣 .Λ) code.function)
+  meets : Meets 𝓤 H A it.signature (WpFn 𝓤 H (𝓣 .C) (𝓣 .Λ) code.function) (it.spec 𝓤 H A mem run)
+  meets =
+      met 𝓤 H A W it.ended stayed (
+        goes-none-slice 𝓤 H A W 1 (0 ∷ []) tt (plain (λ _. u8)) yes,
+        (goes-none 𝓤 H A W 1 (λ _. u32) yes (λ κs x f. refl), tt),
+      )
+      (it.clauses 𝓤 H A mem run) 𝓣 code.function
       (λ κs. (slice-vals, (uint-vals w32, tt)))
       (λ κs. (shr-slice-tells (named 0) (κs .0) u8, (uint-tells w32, tt)))
       (λ κs qs bounds a g are. via 𝓤 _ (fst∗ 𝓤 _ (emp 𝓤))
       (walk 𝓤 H A W mem run (κs .0) (qs .0) (a .0) (a .1 .0) 𝓣 known-start known-opened known-front known-head
       known-next
       known-say known-advance (are .0) (are .1 .0 .1)))
-
-  meets : Meets 𝓤 H A it.signature (WpFn 𝓤 H (𝓣 .C) (𝓣 .Λ) code.function) (it.spec 𝓤 H A mem run)
-  meets =
-      walk-meets 𝓤 H A it.ended stayed W (
-        goes-none-slice 𝓤 H A W 1 (0 ∷ []) tt (plain (λ _. u8)) yes,
-        (goes-none 𝓤 H A W 1 (λ _. u32) yes (λ κs x f. refl), tt),
-      )
-      (it.clauses 𝓤 H A mem run) (WpFn 𝓤 H (𝓣 .C) (𝓣 .Λ) code.function) (WpFn-mono 𝓤 H (W .laws) 𝓣 code.function) walks
 
 pub print-steps-spec : {M : Type 1} → stated.statement M
 unfolding code.routine tablesOf
