@@ -1,3 +1,1 @@
-pub mod PackCalls
-pub mod ReadCalls
-pub mod ListCalls
+pub mod Fits

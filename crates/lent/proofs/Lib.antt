@@ -1,1 +1,4 @@
 pub mod Lent
+pub mod Local
+pub mod Called
+pub mod Walk

@@ -1,3 +1,3 @@
-// Not for callers: lent memory, as laws; no function. proofs/Lent.antt has those for walks by hand over a lent slice of
-// records, which the borrow checker does not cover.
-// Relies on nothing. The proofs of `listing`, `packed` and `host` cite the laws.
+// Not for callers: laws for walks by hand, which the borrow checker does not cover; no function. Over a lent slice
+// (`Lent`), a local array (`Local`), a call (`Called`), and the end of a walk (`Walk`).
+// Relies on nothing. The proofs of `listing`, `packed`, `host` and `packed_trials` cite the laws.

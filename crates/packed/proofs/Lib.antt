@@ -6,5 +6,3 @@ pub mod Reading
 pub mod Filling
 pub mod Held
 pub mod Rest
-pub mod Called
-pub mod FillCalls

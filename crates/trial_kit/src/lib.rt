@@ -20,6 +20,7 @@ pub use line::end;
 pub use line::print_count;
 pub use line::print_entry;
 pub use line::print_refusal;
+pub use line::print_refused;
 pub use line::print_word;
 pub use words::print_zeros;
 pub use words::soil;

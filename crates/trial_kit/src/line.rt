@@ -14,10 +14,15 @@ pub fn print_count(n: u64) {
     io::print_decimal(STDOUT_FILENO, n);
 }
 
-// A refusal behind a space.
-pub fn print_refusal(why: Refusal) {
-    print_word(b" refused");
+// A refusal as it stands, and behind a space.
+pub fn print_refused(why: Refusal) {
+    print_word(b"refused");
     print_count(refusals::number(why) as u64);
+}
+
+pub fn print_refusal(why: Refusal) {
+    print_word(b" ");
+    print_refused(why);
 }
 
 // An entry behind a comma and a space.

@@ -11,10 +11,10 @@ use prog.Wp.{Heap, Calls, Loops, WpFn, Tables}
 use ghost.Atoms.{Atoms}
 use contract.Monad.{Fun}
 use contract.Running.{givenOf, tables, tablesOf}
-use types.Kit.{Given, ‵, _⊛_, _$_, _∵_, !, qed, by, move, suffices, frame, done}
+use types.Kit.{Given, ‵, _⊛_, _$_, _∵_, !, qed, by, suffices, frame, done}
 use types.Part.{whole, sub, look-in}
-use types.Run.{look, init, forget, stop, fld, from, load, of-opd, assigns, returns, enter, alloc1, alloc0, params1, pass1, pass0, free1, free0}
-use sound.WpLaws.{WpFn-mono}
+use types.Run.{look, init, stop, fld, from, load, of-opd, assigns, returns, enter, alloc1, alloc0, params1, pass1}
+use types.Run.{pass0}
 use denote.RattleType.{owns}
 use denote.Laws.{Is}
 use denote.Steps.{owned}
@@ -22,11 +22,12 @@ use denote.Enum.Laws as enum
 use denote.Triple.Entry.{onEntry}
 use denote.Triple.Spec.{Meets, tripleOf}
 use denote.Triple.Table.{entered}
-use denote.Triple.Walked.{says, Stays, stay-none, walkOf, goes-none, Walks, ends-at, walked, walk-meets}
+use denote.Triple.Walked.{says, Stays, stay-none, walkOf, goes-none, ends-at}
 use denote.Exit.{yes}
 use Rattle.model.proofs.OpenAnswer as O
 use Rattle.model.proofs.OpenAnswer.Laws as O′
 use Rattle.packed.specs.declared.Reader.{Reader}
+use Rattle.lent.proofs.Walk.{full, _◂_, leaves, met}
 use Rattle.packed.proofs.Held.{readerRow, readerVals, reader-tells, answerVal, readerVal, reader-typed, answer-is, answer-typed}
 use Rattle.packed.proofs.opened.Key.{name as #key}
 use Rattle.packed.proofs.opened as opened
@@ -59,20 +60,17 @@ module _ {M : Type 1} (𝓤 : URA M) (H : Heap 𝓤) (A : Atoms 𝓤) (W : Given
         qed W ((‵ (flft κ q) ⊛ ‵ ftrue) ∷ ‵ (owns (readerRow (κ, tt) ∷ []) (d, tt) (mach ∷ [], tt)) ∷ []) ∵ enter ! C Λ code.function (mach ∷ []) _ $
         alloc1 ! (λ l₀. alloc1 ! (λ l₁. alloc0 ! $ params1 ! $ pass1 ! (init ! 0 refl (reader-typed κ d 𝓤 H A W p)) $ pass0 ! $
         assigns ! (of-opd ! (load ! (from ! (fld ! refl (stop !))) (look-in ! 0 (sub ! 2 refl (whole !))))) (from ! (stop !)) (init ! 2 refl (answer-typed κ d 𝓤 H A W p)) $
-        returns ! (look ! 2 refl) $ forget ! 2 refl $ forget ! 0 refl $ move ! (2 ∷ 3 ∷ []) $ free1 ! $ move ! (0 ∷ 1 ∷ []) $ free1 ! $ free0 ! $ by ! exits
+        returns ! (look ! 2 refl) $ leaves ! 2 (full ◂ full ◂ tt) $ by ! exits
         ))
 
 module _ {M : Type 1} (𝓤 : URA M) (H : Heap 𝓤) (A : Atoms 𝓤) (W : Given 𝓤 H A) (mem : Memory → SProp 𝓤) (run : Routine → Fun 𝓤) where
-  walks : (C : Calls 𝓤 H) (Λ : Loops 𝓤 H) → Walks 𝓤 H A opened.ended stayed (WpFn 𝓤 H C Λ code.function) (opened.clauses 𝓤 H A mem run)
-  walks C Λ =
-      walked 𝓤 H A opened.ended stayed (opened.clauses 𝓤 H A mem run) (WpFn 𝓤 H C Λ code.function)
-      (λ κs. (readerVals κs, tt)) (λ κs. (reader-tells κs, tt))
-      (λ κs qs bounds a g are. via 𝓤 _ (fst∗ 𝓤 _ (emp 𝓤)) (walk 𝓤 H A W mem run (κs .0) (qs .0) (a .0) (are .0) C Λ))
-
   meets : (𝓣 : Tables 𝓤 H) → Meets 𝓤 H A opened.signature (WpFn 𝓤 H (𝓣 .C) (𝓣 .Λ) code.function) (opened.spec 𝓤 H A mem run)
   meets 𝓣 =
-      walk-meets 𝓤 H A opened.ended stayed W (goes-none 𝓤 H A W 1 readerRow yes (λ κs x f. refl), tt) (opened.clauses 𝓤 H A mem run)
-      (WpFn 𝓤 H (𝓣 .C) (𝓣 .Λ) code.function) (WpFn-mono 𝓤 H (W .laws) 𝓣 code.function) (walks (𝓣 .C) (𝓣 .Λ))
+      met 𝓤 H A W opened.ended stayed (goes-none 𝓤 H A W 1 readerRow yes (λ κs x f. refl), tt)
+      (opened.clauses 𝓤 H A mem run) 𝓣 code.function
+      (λ κs. (readerVals κs, tt)) (λ κs. (reader-tells κs, tt))
+      (λ κs qs bounds a g are. via 𝓤 _ (fst∗ 𝓤 _ (emp 𝓤)) (walk 𝓤 H A W mem run (κs .0) (qs .0) (a .0) (are .0) (𝓣 .C)
+      (𝓣 .Λ)))
 
 pub opened-spec : {M : Type 1} → stated.statement M
 unfolding code.routine tablesOf

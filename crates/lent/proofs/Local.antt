@@ -1,6 +1,8 @@
--- A local array in a walk: its elements one by one, as a row that can be cut in two and joined, and the array again. Assumes `Given`.
+-- A local array in a walk: its elements one by one, as a row that can be cut in two and joined, and the array again.
+-- Assumes `Given`.
 --     row-cut, row-join    a row of xs and ys is a row of xs and, behind it, one of ys
---     array-out, array-in  a local array of n equal elements is a row of them; and a row of n elements is a local array
+--     array-row, array-in  a local array of n elements is a row of them, and a row of n elements is a local array
+--     array-out            the same of an array that repeats one element
 --     array-under          the relation of an array, with each element seen through a function
 use Prim.Native.Nat.{ℕ, zero, suc, _+_}
 use mathlib.Core.Path.{_≡_, refl, _∙_, subst}
@@ -15,7 +17,7 @@ use base.Fml.{Fml, fsep, fat}
 use prog.Wp.{Heap}
 use ghost.Atoms.{Atoms, sem}
 use types.Kit.{Given, ‵, _⊛_, _$_, _∵_, !, qed, move, use1, use2, drop, split, rewrite, check, fsplit, fjoin, fpick}
-use types.Kit.{fpack, feqI, frame, done}
+use types.Kit.{fpack, feqI, frame, by, done}
 use types.Share.{arr-parts}
 use denote.RattleType.{RattleType}
 use denote.Shadow.{shadow}
@@ -51,25 +53,30 @@ module _ {M : Type 1} (𝓤 : URA M) (H : Heap 𝓤) (A : Atoms 𝓤) (W : Given
       move ! (1 ∷ 0 ∷ []) $ fjoin ! $ done !
 
   module _ (one : Single (R .mir)) (val : R .Denot → Val) (tells : Tells R (Is R) (λ x. val x ∷ [])) (n l : ℕ) where
+    pub array-row : (xs : List (R .Denot)) (v : Val)
+        → ent 𝓤 (sep 𝓤 (H .at fullShare (tyArray (lone (R .mir)) n) l 0 v) (sem 𝓤 H A (Array R n .own xs (v ∷ []))))
+        (sem 𝓤 H A (rowAt xs l 0))
+    unfolding partOf
+    array-row xs v =
+        qed W (‵ (fat fullShare (tyArray (lone (R .mir)) n) l 0 v) ∷ ‵ (Array R n .own xs (v ∷ [])) ∷ []) ∵
+        use1 W (‵ (cellAt fullShare (Array R n .mir) (v ∷ []) l 0))
+        (W .laws .at-raw fullShare (tyArray (lone (R .mir)) n) l 0 v) $ fjoin ! $
+        fpack ! (List Val) (λ vs. fsep (cellAt fullShare (Array R n .mir) vs l 0) (Array R n .own xs vs)) (v ∷ []) $
+        use1 W (‵ (arr-parts (shares R) n .part fullShare xs l 0))
+        (array-apart 𝓤 H A W R fullShare one n xs l 0) $
+        fsplit ! $ drop ! $ done !
+
     pub array-out : Copy 𝓤 H A R → (x : R .Denot) (u : Val)
         → ent 𝓤 (sep 𝓤 (H .at fullShare (tyArray (lone (R .mir)) n) l 0 (arrayVal (replicate n u))) (sem 𝓤 H A
         (R .own x (u ∷ []))))
         (sem 𝓤 H A (rowAt (replicate n x) l 0))
-    unfolding partOf
     array-out copy x u =
         qed W (‵ (fat fullShare (tyArray (lone (R .mir)) n) l 0 (arrayVal (replicate n u))) ∷ ‵ (R .own x
         (u ∷ [])) ∷ []) ∵
-        use1 W (‵ (cellAt fullShare (Array R n .mir) (arrayVal (replicate n u) ∷ []) l 0))
-        (W .laws .at-raw fullShare (tyArray (lone (R .mir)) n) l 0 (arrayVal (replicate n u))) $
         move ! (1 ∷ []) $
         use1 W (‵ (Array R n .own (replicate n x) (arrayVal (replicate n u) ∷ [])))
         (array-repeat 𝓤 H A W R copy n x u) $
-        move ! (1 ∷ 0 ∷ []) $ fjoin ! $
-        fpack ! (List Val) (λ vs. fsep (cellAt fullShare (Array R n .mir) vs l 0) (Array R n .own
-        (replicate n x) vs)) (arrayVal (replicate n u) ∷ []) $
-        use1 W (‵ (arr-parts (shares R) n .part fullShare (replicate n x) l 0))
-        (array-apart 𝓤 H A W R fullShare one n (replicate n x) l 0) $
-        fsplit ! $ drop ! $ done !
+        move ! (1 ∷ 0 ∷ []) $ by ! (array-row (replicate n x) (arrayVal (replicate n u)))
 
     pub array-in : (xs : List (R .Denot)) → length xs ≡ n
         → ent 𝓤 (sem 𝓤 H A (rowAt xs l 0))
