@@ -190,7 +190,7 @@ unfolding memberOf
 bit-member x k h e = ap₂ (λ (a b : Bool). a && b) (lt-ltb k columnBound h) (eq-eqb (bit x k) 1 e)
 
 -- the members of both
-low-bit : (v w m : ℕ) → v ≡ w * 2 + m → m < 2 → v % 2 ≡ m
+pub low-bit : (v w m : ℕ) → v ≡ w * 2 + m → m < 2 → v % 2 ≡ m
 low-bit v w m e h = omega arith
 
 and-low : (a b : ℕ) → bitAnd a b % 2 ≡ min (a % 2) (b % 2)

@@ -15,16 +15,13 @@ use lib.Pow.{pow-lt, shl-shr}
 use Rattle.columns.specs.Set.{bit, withoutOf}
 use Rattle.columns.specs.Test.{pick}
 use Rattle.columns.proofs.SetBelow.{setBelow-lt, setBelow-bit}
-use Rattle.columns.proofs.Bits.{bit-zero, bit-suc, bit-below, bit-past, bit-and, without-some}
+use Rattle.columns.proofs.Bits.{low-bit, bit-zero, bit-suc, bit-below, bit-past, bit-and, without-some}
 use Rattle.columns.specs.Set.{setBelow}
 use Rattle.table.specs.Words.{lackingOf}
 
-low-digit : (v w m : ℕ) → v ≡ w * 2 + m → m < 2 → v % 2 ≡ m
-low-digit v w m e h = omega arith
-
 -- the bits of either
 or-low : (a b : ℕ) → bitOr a b % 2 ≡ max (a % 2) (b % 2)
-or-low a b = low-digit (bitOr a b) (bitOr (a / 2) (b / 2)) (max (a % 2) (b % 2)) (or-step a b) (omega arith)
+or-low a b = low-bit (bitOr a b) (bitOr (a / 2) (b / 2)) (max (a % 2) (b % 2)) (or-step a b) (omega arith)
 
 pub bit-or : (x y k : ℕ) → bit (bitOr x y) k ≡ max (bit x k) (bit y k)
 bit-or x y k = ap (λ (z : ℕ). z % 2) (or-shr x y k) ∙ or-low (x / 2 ^ k) (y / 2 ^ k)
@@ -42,7 +39,7 @@ differ-lt (suc (suc x)) (suc y) hx hy = absurd (omega arith)
 
 xor-low : (a b : ℕ) → bitXor a b % 2 ≡ differ (a % 2) (b % 2)
 xor-low a b =
-    low-digit (bitXor a b) (bitXor (a / 2) (b / 2)) (differ (a % 2) (b % 2)) (xor-step a b)
+    low-bit (bitXor a b) (bitXor (a / 2) (b / 2)) (differ (a % 2) (b % 2)) (xor-step a b)
     (differ-lt (a % 2) (b % 2) (omega arith) (omega arith))
 
 bit-xor : (x y k : ℕ) → bit (bitXor x y) k ≡ differ (bit x k) (bit y k)
