@@ -161,13 +161,6 @@ parts-are bytes low high few x q e g =
     let first : setBelow 8 (λ j. f (0 + j)) ≡ setBelow 8 f = setBelow-same 8 (λ j. f (0 + j)) f (λ j m. ap f (zero-add j)) in
     omega arith
 
--- a bit that is not 1 is 0
-pub bit-zero : (x k : ℕ) → (bit x k ≡ 1 → ⊥) → bit x k ≡ 0
-bit-zero x k n = omega (arith, mod-lt (x / 2 ^ k) two-pos)
-  where
-    two-pos : 0 < 2
-    two-pos = omega arith
-
 -- one bit more, anywhere
 pub or-one : (n k : ℕ) (f g : ℕ → Bool) → k < n → f k ≡ false → ((i : ℕ) → (i ≡ k → ⊥) → g i ≡ f i)
     → bitOr (setBelow n f) (pick (g k) (2 ^ k) 0) ≡ setBelow n g

@@ -15,7 +15,7 @@ use lib.Pow.{pow-lt, shl-shr}
 use Rattle.columns.specs.Set.{bit, withoutOf}
 use Rattle.columns.specs.Test.{pick}
 use Rattle.columns.proofs.SetBelow.{setBelow-lt, setBelow-bit}
-use Rattle.columns.proofs.Bits.{bit-zero, bit-suc, bit-below, bit-past, low-bit, bit-and, without-some}
+use Rattle.columns.proofs.Bits.{low-bit, bit-zero, bit-suc, bit-below, bit-past, bit-and, without-some}
 use Rattle.columns.specs.Set.{setBelow}
 use Rattle.table.specs.Words.{lackingOf}
 

@@ -1,5 +1,6 @@
 -- `lines::wide::add_if` meets its contract.
-use Rattle.lines.proofs.Lines.{line-kept, line-joined, bit-zero}
+use Rattle.table.proofs.Table.{bit-zero-if}
+use Rattle.lines.proofs.Lines.{line-kept, line-joined}
 use borrow.Author.Needs.{needs}
 use Rattle.lines.proofs.wide.add_if.Statement.{statement}
 use Rattle.lines.proofs.wide.add_if.Tie as tie
@@ -20,7 +21,7 @@ returns-2 c =
     let s = c .before .before .before in
     let a = s .args in (
       λ bytes o.
-          line-joined (a .keys .now) bytes (a .few) (a .k) (a .x) (a .line .now) (s .pre .0) (bit-zero _ _ (c .before .before .if1 .left)) (c .add-member .ensures) o,
+          line-joined (a .keys .now) bytes (a .few) (a .k) (a .x) (a .line .now) (s .pre .0) (bit-zero-if _ _ (c .before .before .if1 .left)) (c .add-member .ensures) o,
       c .add-member .ensures .long,
     )
 
