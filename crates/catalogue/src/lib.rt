@@ -11,16 +11,16 @@ use model::CheckAnswer;
 use refusals::refusal;
 
 // The check: how many tables, and how many sets over all targets; or why the bytes are no catalogue.
-pub fn check(b: &[u8]) -> CheckAnswer
-    ensures { λ r. ⌜ checkReply r ≡ checkMeaning (now (b .entry)) ⌝ }
+pub fn check(cat: &[u8]) -> CheckAnswer
+    ensures { λ r. ⌜ checkReply r ≡ checkMeaning (now (cat .entry)) ⌝ }
 {
-    let code = check_code(b);
+    let code = check_code(cat);
     if code != 0 {
         return CheckAnswer::Refused(refusal(code));
     }
-    let n = tables(b) as u32;
+    let n = tables(cat) as u32;
     CheckAnswer::Sound {
         tables: n,
-        sets: sets(b),
+        sets: sets(cat),
     }
 }

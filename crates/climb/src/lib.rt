@@ -19,19 +19,19 @@ fn wide(x: u8) -> u16
 }
 
 // The 2-byte number at o.
-pub fn short_at(b: &[u8], o: usize) -> u16
-    requires { ⌜ o + 2 ≤ length (now b) ⌝ }
-    ensures { λ r. ⌜ r ≡ u16At (now (b .entry)) o ⌝ }
+pub fn short_at(cat: &[u8], o: usize) -> u16
+    requires { ⌜ o + 2 ≤ length (now cat) ⌝ }
+    ensures { λ r. ⌜ r ≡ u16At (now (cat .entry)) o ⌝ }
 {
-    wide(b[o]) + 256 * wide(b[o + 1])
+    wide(cat[o]) + 256 * wide(cat[o + 1])
 }
 
 // The 4-byte number at o.
-pub fn code_at(b: &[u8], o: usize) -> u32
-    requires { ⌜ o + 4 ≤ length (now b) ⌝ }
-    ensures { λ r. ⌜ r ≡ u32At (now (b .entry)) o ⌝ }
+pub fn code_at(cat: &[u8], o: usize) -> u32
+    requires { ⌜ o + 4 ≤ length (now cat) ⌝ }
+    ensures { λ r. ⌜ r ≡ u32At (now (cat .entry)) o ⌝ }
 {
-    short_at(b, o) as u32 + 65536 * short_at(b, o + 2) as u32
+    short_at(cat, o) as u32 + 65536 * short_at(cat, o + 2) as u32
 }
 
 // A row number as an index.
@@ -54,17 +54,17 @@ pub fn own_rows(end: usize, reached: &mut [u16; ROWS])
 }
 
 // One step up, from a table whose rows stand at o, a width apart: to the parent rows of the rows reached.
-pub fn parent_rows(b: &[u8], o: usize, width: usize, end: usize, reached: &mut [u16; ROWS])
+pub fn parent_rows(cat: &[u8], o: usize, width: usize, end: usize, reached: &mut [u16; ROWS])
     requires { ⌜ (end ≤ rowBound) × (length (now reached) ≡ rowBound) ⌝ }
-    requires { ⌜ ((q : ℕ) → q < end → o + getD (now reached) q 0 * width + 2 ≤ length (now b)) ⌝ }
+    requires { ⌜ ((q : ℕ) → q < end → o + getD (now reached) q 0 * width + 2 ≤ length (now cat)) ⌝ }
     ensures { λ _.
-        ⌜ Filled 0 end (λ (q : ℕ). u16At (now (b .entry)) (o + getD (now (reached .entry)) q 0 * width))
+        ⌜ Filled 0 end (λ (q : ℕ). u16At (now (cat .entry)) (o + getD (now (reached .entry)) q 0 * width))
         (now (reached .entry)) (now (reached .exit)) ⌝ }
 {
     let mut q: usize = 0;
     while q < end {
         let x = index(reached[q]);
-        reached[q] = short_at(b, o + x * width);
+        reached[q] = short_at(cat, o + x * width);
         q += 1;
     }
 }

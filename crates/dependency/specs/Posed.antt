@@ -9,11 +9,11 @@ use Rattle.model.specs.Catalogue.{tables, visible}
 use Rattle.model.specs.Check.{Accepted}
 
 -- what a question that is not refused says of the target t, the left side x and the right side a
-pub record Posed (b : List ℕ) (t x a : ℕ) : Type 0 where
-  pub accepted : Accepted b
-  pub target : t < tables b
-  pub left : x < 2 ^ visible b t
-  pub right : (a ≡ row → ⊥) → a < visible b t
+pub record Posed (cat : List ℕ) (t x a : ℕ) : Type 0 where
+  pub accepted : Accepted cat
+  pub target : t < tables cat
+  pub left : x < 2 ^ visible cat t
+  pub right : (a ≡ row → ⊥) → a < visible cat t
 
 -- the members that it looks at: those of the left side, and the right side where it is a column
 unfoldable pub membersOf : ℕ → ℕ → ℕ

@@ -9,21 +9,21 @@ use Rattle.model.specs.Check.{sizeCode, trailerCode, headCode, boundCode, paren
 use Rattle.model.specs.Check.{rowCode, tableCode, leftCode, checkCode}
 use Rattle.model.proofs.Grounds.{ifEq-le, ifLt-le, ifLe-le, orElse-le, firstOf-le}
 
-table-code-le : (b : List ℕ) (i : ℕ) → tableCode b i ≤ number BadParentRow
+table-code-le : (cat : List ℕ) (i : ℕ) → tableCode cat i ≤ number BadParentRow
 unfolding tableCode headCode boundCode parentCode widthCode extentCode rowCode
-table-code-le b i =
+table-code-le cat i =
     orElse-le (ifEq-le _ _ (ifLe-le _ _ (lit≤ tt) (lit≤ tt)) (lit≤ tt))
     (orElse-le (ifLt-le _ _ (lit≤ tt) (ifLt-le _ _ (lit≤ tt) (lit≤ tt)))
     (orElse-le (ifEq-le _ _ (ifEq-le _ _ (lit≤ tt) (lit≤ tt)) (ifLt-le _ _ (lit≤ tt) (lit≤ tt)))
     (orElse-le (ifLt-le _ _ (lit≤ tt) (lit≤ tt))
     (orElse-le (ifLe-le _ _ (lit≤ tt) (lit≤ tt))
-    (firstOf-le (rows b i) 0 (rowCode b i)
+    (firstOf-le (rows cat i) 0 (rowCode cat i)
     (λ k. ifEq-le _ _ (ifEq-le _ _ (lit≤ tt) (lit≤ tt)) (ifLt-le _ _ (lit≤ tt) (lit≤ tt))))))))
 
 -- the check's code is 0 or the number of one of its refusals, of which the last is for a row
-pub check-code-le : (b : List ℕ) → checkCode b ≤ number BadParentRow
+pub check-code-le : (cat : List ℕ) → checkCode cat ≤ number BadParentRow
 unfolding checkCode sizeCode trailerCode leftCode
-check-code-le b =
+check-code-le cat =
     orElse-le (ifLt-le _ _ (lit≤ tt) (lit≤ tt))
     (orElse-le (ifEq-le _ _ (lit≤ tt) (ifLt-le _ _ (lit≤ tt) (ifEq-le _ _ (lit≤ tt) (lit≤ tt))))
-    (orElse-le (firstOf-le (tables b) 0 (tableCode b) (table-code-le b)) (ifEq-le _ _ (lit≤ tt) (lit≤ tt))))
+    (orElse-le (firstOf-le (tables cat) 0 (tableCode cat) (table-code-le cat)) (ifEq-le _ _ (lit≤ tt) (lit≤ tt))))

@@ -13,32 +13,32 @@ use Rattle.model.specs.Catalogue.{tables, columns, parent, rows, rowAt, parentR
 use Rattle.model.specs.Check.{startOf, rowCode}
 
 -- the next row starts a row's width further on
-pub next-row : (b : List ℕ) (i k : ℕ) → rowAt b i (k + 1) ≡ rowAt b i k + (2 + 4 * columns b i)
+pub next-row : (cat : List ℕ) (i k : ℕ) → rowAt cat i (k + 1) ≡ rowAt cat i k + (2 + 4 * columns cat i)
 unfolding rowAt
-next-row b i k = omega (arith, add-mul k 1 (2 + 4 * columns b i))
+next-row cat i k = omega (arith, add-mul k 1 (2 + 4 * columns cat i))
 
 -- 7 of a row, from the numbers that are read
-pub row-code-is : (b : List ℕ) (i k : ℕ) {r up above p at : ℕ}
+pub row-code-is : (cat : List ℕ) (i k : ℕ) {r up above p at : ℕ}
     → r ≡ ifEq i 0 (ifEq up noParent 0 (number BadParentRow)) (ifLt up above 0 (number BadParentRow))
-    → up ≡ u16At b at → at ≡ rowAt b i k → above ≡ rows b p → p ≡ parent b i → r ≡ rowCode b i k
+    → up ≡ u16At cat at → at ≡ rowAt cat i k → above ≡ rows cat p → p ≡ parent cat i → r ≡ rowCode cat i k
 unfolding rowCode parentRow
-row-code-is b i k e u a v q =
+row-code-is cat i k e u a v q =
     e ∙ ap₂ (λ (x y : ℕ). ifEq i 0 (ifEq x noParent 0 (number BadParentRow)) (ifLt x y 0 (number BadParentRow)))
-    (u ∙ ap (u16At b) a) (v ∙ ap (rows b) q)
+    (u ∙ ap (u16At cat) a) (v ∙ ap (rows cat) q)
 
 -- where a table must start
-pub start-first : (b : List ℕ) (i : ℕ) → i ≡ 0 → 0 ≡ startOf b i
+pub start-first : (cat : List ℕ) (i : ℕ) → i ≡ 0 → 0 ≡ startOf cat i
 unfolding startOf
-start-first b zero e = refl
-start-first b (suc i) e = omega arith
+start-first cat zero e = refl
+start-first cat (suc i) e = omega arith
 
-pub start-after : (b : List ℕ) (i : ℕ) → (i ≡ 0 → ⊥) → tableEnd b (i - 1) ≡ startOf b i
+pub start-after : (cat : List ℕ) (i : ℕ) → (i ≡ 0 → ⊥) → tableEnd cat (i - 1) ≡ startOf cat i
 unfolding startOf
-start-after b zero n = absurd (n refl)
-start-after b (suc i) n =
+start-after cat zero n = absurd (n refl)
+start-after cat (suc i) n =
     let one-less : suc i - 1 ≡ i = omega arith in
-    ap (λ (j : ℕ). tableEnd b j) one-less
+    ap (λ (j : ℕ). tableEnd cat j) one-less
 
 -- the end of the last table, from the numbers that are read
-pub last-end : (b : List ℕ) {n l e : ℕ} → n ≡ tables b → l ≡ n - 1 → e ≡ tableEnd b l → e ≡ tableEnd b (tables b - 1)
-last-end b p q r = r ∙ ap (tableEnd b) (q ∙ ap (λ (m : ℕ). m - 1) p)
+pub last-end : (cat : List ℕ) {n l e : ℕ} → n ≡ tables cat → l ≡ n - 1 → e ≡ tableEnd cat l → e ≡ tableEnd cat (tables cat - 1)
+last-end cat p q r = r ∙ ap (tableEnd cat) (q ∙ ap (λ (m : ℕ). m - 1) p)

@@ -32,31 +32,31 @@ use Rattle.keys.specs.Column.{codeOf, agreeBy, leaderBy, LaidTable}
 
 -- the rows of table t lead to rows of table `at`, with so many columns visible there, on which they agree as the rows reached do; and the members of
 -- the set from there on are laid
-pub record Laying (b : List ℕ) (t set at above : ℕ) (reached keys : List ℕ) : Type 0 where
-  pub table : at < tables b
-  pub left : above ≡ visible b at
-  pub some : above ≤ visible b t
+pub record Laying (cat : List ℕ) (t set at above : ℕ) (reached keys : List ℕ) : Type 0 where
+  pub table : at < tables cat
+  pub left : above ≡ visible cat at
+  pub some : above ≤ visible cat t
   pub wide : length reached ≡ rowBound
   pub long : length keys ≡ keysSize
-  pub exists : (q : ℕ) → q < rows b t → getD reached q 0 < rows b at
-  pub agree : (k p q : ℕ) → k < above → p < rows b t → q < rows b t
-      → agreeAt b t k p q ≡ agreeAt b at k (getD reached p 0) (getD reached q 0)
-  pub laid : (k q : ℕ) → above ≤ k → k < visible b t → In k set → q < rows b t → keyAt keys k q ≡ leaderOf (view b t) (2 ^ k) q
+  pub exists : (q : ℕ) → q < rows cat t → getD reached q 0 < rows cat at
+  pub agree : (k p q : ℕ) → k < above → p < rows cat t → q < rows cat t
+      → agreeAt cat t k p q ≡ agreeAt cat at k (getD reached p 0) (getD reached q 0)
+  pub laid : (k q : ℕ) → above ≤ k → k < visible cat t → In k set → q < rows cat t → keyAt keys k q ≡ leaderOf (view cat t) (2 ^ k) q
 
-pub laying-begun : (b : List ℕ) (t n set end : ℕ) (before reached keys : List ℕ) → t < tables b → n ≡ visible b t → end ≡ rows b t
-    → length before ≡ rowBound → length keys ≡ keysSize → Filled 0 end (λ q. q) before reached → Laying b t set t n reached keys
-laying-begun b t n set end before reached keys h e f wide long put = record {
+pub laying-begun : (cat : List ℕ) (t n set end : ℕ) (before reached keys : List ℕ) → t < tables cat → n ≡ visible cat t → end ≡ rows cat t
+    → length before ≡ rowBound → length keys ≡ keysSize → Filled 0 end (λ q. q) before reached → Laying cat t set t n reached keys
+laying-begun cat t n set end before reached keys h e f wide long put = record {
   table = h;
   left = e;
   some = omega arith;
   wide = put .same-length ∙ wide;
   long = long;
   exists = λ q l. omega (arith, own q l);
-  agree = λ k p q l lp lq. ap₂ (agreeAt b t k) (sym (own p lp)) (sym (own q lq));
+  agree = λ k p q l lp lq. ap₂ (agreeAt cat t k) (sym (own p lp)) (sym (own q lq));
   laid = λ k q l m. absurd (omega arith);
 }
   where
-    own : (q : ℕ) → q < rows b t → getD reached q 0 ≡ q
+    own : (q : ℕ) → q < rows cat t → getD reached q 0 ≡ q
     own q l = filled-first put q (omega arith)
 
 -- to agree on the left side of one member, as a test
@@ -67,122 +67,122 @@ agreeOn-member v k p q l =
     same-test (agreeOn v (2 ^ k) p q) (v .agree k p q) (λ t. one .0 (on .0 t)) (λ t. on .1 (one .1 t))
 
 -- where the cell of row x in column i of a table stands
-cell-at : (b : List ℕ) (at o c i x : ℕ) → o ≡ tableAt b at → c ≡ columns b at → codeOf b (o + 8 + 4 * i) (2 + 4 * c) x ≡ cell b at x i
+cell-at : (cat : List ℕ) (at o c i x : ℕ) → o ≡ tableAt cat at → c ≡ columns cat at → codeOf cat (o + 8 + 4 * i) (2 + 4 * c) x ≡ cell cat at x i
 unfolding cell rowAt
-cell-at b at o c i x e f =
+cell-at cat at o c i x e f =
     let g : o + 8 + 4 * i + x * (2 + 4 * c) ≡ o + 6 + x * (2 + 4 * c) + 2 + 4 * i = omega arith in
-    ap (u32At b) g ∙ ap₂ (λ (o c : ℕ). u32At b (o + 6 + x * (2 + 4 * c) + 2 + 4 * i)) e f
+    ap (u32At cat) g ∙ ap₂ (λ (o c : ℕ). u32At cat (o + 6 + x * (2 + 4 * c) + 2 + 4 * i)) e f
 
 -- rows compared on own column i of a table, by the rows of it that they lead to
-agree-by : (b : List ℕ) (at o c i : ℕ) (reached : List ℕ) (p q : ℕ) → o ≡ tableAt b at → c ≡ columns b at
-    → agreeBy b (o + 8 + 4 * i) (2 + 4 * c) reached p q ≡ agreeAt b at (inherited b at + i) (getD reached p 0) (getD reached q 0)
+agree-by : (cat : List ℕ) (at o c i : ℕ) (reached : List ℕ) (p q : ℕ) → o ≡ tableAt cat at → c ≡ columns cat at
+    → agreeBy cat (o + 8 + 4 * i) (2 + 4 * c) reached p q ≡ agreeAt cat at (inherited cat at + i) (getD reached p 0) (getD reached q 0)
 unfolding agreeBy
-agree-by b at o c i reached p q e f =
-    ap₂ (cellsAgree (getD reached p 0) (getD reached q 0)) (cell-at b at o c i (getD reached p 0) e f)
-    (cell-at b at o c i (getD reached q 0) e f)
-    ∙ sym (agree-own b at i (getD reached p 0) (getD reached q 0))
+agree-by cat at o c i reached p q e f =
+    ap₂ (cellsAgree (getD reached p 0) (getD reached q 0)) (cell-at cat at o c i (getD reached p 0) e f)
+    (cell-at cat at o c i (getD reached q 0) e f)
+    ∙ sym (agree-own cat at i (getD reached p 0) (getD reached q 0))
 
-module _ (b : List ℕ) (ok : Accepted b) {t set at above : ℕ} {reached keys : List ℕ} (h : Laying b t set at above reached keys)
-    {o c : ℕ} (e : o ≡ tableAt b at) (f : c ≡ columns b at) where
+module _ (cat : List ℕ) (ok : Accepted cat) {t set at above : ℕ} {reached keys : List ℕ} (h : Laying cat t set at above reached keys)
+    {o c : ℕ} (e : o ≡ tableAt cat at) (f : c ≡ columns cat at) where
   -- the own columns of the table are the last of those left
   pub own-left : c ≤ above
-  own-left = omega (arith, inherited-own b at, h .left)
+  own-left = omega (arith, inherited-own cat at, h .left)
 
   pub few-left : above ≤ columnBound
-  few-left = omega (arith, accepted-visible b ok at (h .table), h .left)
+  few-left = omega (arith, accepted-visible cat ok at (h .table), h .left)
 
-  left-inherited : above - c ≡ inherited b at
+  left-inherited : above - c ≡ inherited cat at
   unfolding inherited
   left-inherited = omega (arith, h .left)
 
   -- the rows reached stand within the bytes
-  pub rows-within : (q : ℕ) → q < rows b t → o + 6 + getD reached q 0 * (2 + 4 * c) + (2 + 4 * c) ≤ length b
+  pub rows-within : (q : ℕ) → q < rows cat t → o + 6 + getD reached q 0 * (2 + 4 * c) + (2 + 4 * c) ≤ length cat
   rows-within q l =
       omega (
         arith,
         ap₂ (λ (o c : ℕ). o + 6 + getD reached q 0 * (2 + 4 * c)) e f,
-        row-within b ok at (getD reached q 0) (h .table) (h .exists q l),
+        row-within cat ok at (getD reached q 0) (h .table) (h .exists q l),
       )
 
   -- a leader by an own column of the table is one by the member that it is
-  own-leader : (i q : ℕ) → i < c → q < rows b t
-      → leaderBy b (o + 8 + 4 * i) (2 + 4 * c) reached q ≡ leaderOf (view b t) (2 ^ (above - c + i)) q
+  own-leader : (i q : ℕ) → i < c → q < rows cat t
+      → leaderBy cat (o + 8 + 4 * i) (2 + 4 * c) reached q ≡ leaderOf (view cat t) (2 ^ (above - c + i)) q
   unfolding leaderBy leaderOf
   own-leader i q li lq =
-      firstFrom-same (λ p. agreeBy b (o + 8 + 4 * i) (2 + 4 * c) reached p q) (λ p. agreeOn (view b t) (2 ^ (above - c + i)) p q) q 0
+      firstFrom-same (λ p. agreeBy cat (o + 8 + 4 * i) (2 + 4 * c) reached p q) (λ p. agreeOn (view cat t) (2 ^ (above - c + i)) p q) q 0
       (λ p l m. same p (omega arith))
     where
-      same : (p : ℕ) → p < q → agreeBy b (o + 8 + 4 * i) (2 + 4 * c) reached p q ≡ agreeOn (view b t) (2 ^ (above - c + i)) p q
+      same : (p : ℕ) → p < q → agreeBy cat (o + 8 + 4 * i) (2 + 4 * c) reached p q ≡ agreeOn (view cat t) (2 ^ (above - c + i)) p q
       same p l =
-          let k : inherited b at + i ≡ above - c + i = omega (arith, left-inherited) in
-          agree-by b at o c i reached p q e f
-          ∙ ap (λ (k : ℕ). agreeAt b at k (getD reached p 0) (getD reached q 0)) k
+          let k : inherited cat at + i ≡ above - c + i = omega (arith, left-inherited) in
+          agree-by cat at o c i reached p q e f
+          ∙ ap (λ (k : ℕ). agreeAt cat at k (getD reached p 0) (getD reached q 0)) k
           ∙ sym (h .agree (above - c + i) p q (omega (arith, own-left)) (omega arith) lq)
-          ∙ sym (agreeOn-member (view b t) (above - c + i) p q (omega (arith, own-left, h .some)))
+          ∙ sym (agreeOn-member (view cat t) (above - c + i) p q (omega (arith, own-left, h .some)))
 
   -- with the own columns of the table, the members from the first of them on are laid
-  laid-from : (end : ℕ) (after : List ℕ) → end ≡ rows b t → LaidTable b o c (above - c) reached end set 0 keys after
-      → (k q : ℕ) → above - c ≤ k → k < visible b t → In k set → q < rows b t → keyAt after k q ≡ leaderOf (view b t) (2 ^ k) q
+  laid-from : (end : ℕ) (after : List ℕ) → end ≡ rows cat t → LaidTable cat o c (above - c) reached end set 0 keys after
+      → (k q : ℕ) → above - c ≤ k → k < visible cat t → In k set → q < rows cat t → keyAt after k q ≡ leaderOf (view cat t) (2 ^ k) q
   laid-from end after g m k q lk lv i lq = own (decLt k above)
     where
-      own : Dec (k < above) → keyAt after k q ≡ leaderOf (view b t) (2 ^ k) q
+      own : Dec (k < above) → keyAt after k q ≡ leaderOf (view cat t) (2 ^ k) q
       own (yes l) =
           let n : above - c + (k - (above - c)) ≡ k = omega arith in
-          subst (λ (k : ℕ). keyAt after k q ≡ leaderOf (view b t) (2 ^ k) q) n
+          subst (λ (k : ℕ). keyAt after k q ≡ leaderOf (view cat t) (2 ^ k) q) n
           (m .laid (k - (above - c)) q (omega arith) (omega arith) (subst (λ (k : ℕ). In k set) (sym n) i) (omega arith)
           ∙ own-leader (k - (above - c)) q (omega arith) lq)
       own (no n) = m .kept k q (omega (arith, own-left)) ∙ h .laid k q (omega arith) lv i lq
 
   -- no member of the set is below: the walk ends
-  pub laying-done : (end : ℕ) (after : List ℕ) → end ≡ rows b t → LaidTable b o c (above - c) reached end set 0 keys after
-      → set % 2 ^ (above - c) ≡ 0 → LaidFor (view b t) set after
+  pub laying-done : (end : ℕ) (after : List ℕ) → end ≡ rows cat t → LaidTable cat o c (above - c) reached end set 0 keys after
+      → set % 2 ^ (above - c) ≡ 0 → LaidFor (view cat t) set after
   laying-done end after g m none k q lv i lq = either (decLt k (above - c))
     where
-      either : Dec (k < above - c) → keyAt after k q ≡ leaderOf (view b t) (2 ^ k) q
+      either : Dec (k < above - c) → keyAt after k q ≡ leaderOf (view cat t) (2 ^ k) q
       either (yes l) = absurd (omega (arith, sym (bit-below set k (above - c) l) ∙ ap (λ (x : ℕ). bit x k) none ∙ bit-none k, i))
       either (no n) = laid-from end after g m k q (omega arith) lv i lq
 
   -- some are: the table is not the root, and the walk goes on from its parent
   not-root : (set % 2 ^ (above - c) ≡ 0 → ⊥) → at ≡ 0 → ⊥
   not-root some r =
-      let z : set % 2 ^ 0 ≡ 0 = omega arith in some (ap (λ (k : ℕ). set % 2 ^ k) (left-inherited ∙ inherited-root b ok at r) ∙ z)
+      let z : set % 2 ^ 0 ≡ 0 = omega arith in some (ap (λ (k : ℕ). set % 2 ^ k) (left-inherited ∙ inherited-root cat ok at r) ∙ z)
 
   has-parent : (set % 2 ^ (above - c) ≡ 0 → ⊥) → 0 < at
   has-parent some = let n = not-root some in omega arith
 
-  parent-at : (up : ℕ) → up ≡ u16At b (o + 2) → up ≡ parent b at
+  parent-at : (up : ℕ) → up ≡ u16At cat (o + 2) → up ≡ parent cat at
   unfolding Catalogue.parent
-  parent-at up g = g ∙ ap (λ (o : ℕ). u16At b (o + 2)) e
+  parent-at up g = g ∙ ap (λ (o : ℕ). u16At cat (o + 2)) e
 
-  parent-row-at : (x : ℕ) → u16At b (o + 6 + x * (2 + 4 * c)) ≡ parentRow b at x
+  parent-row-at : (x : ℕ) → u16At cat (o + 6 + x * (2 + 4 * c)) ≡ parentRow cat at x
   unfolding parentRow rowAt
-  parent-row-at x = ap₂ (λ (o c : ℕ). u16At b (o + 6 + x * (2 + 4 * c))) e f
+  parent-row-at x = ap₂ (λ (o c : ℕ). u16At cat (o + 6 + x * (2 + 4 * c))) e f
 
-  pub parent-lower : (up : ℕ) → up ≡ u16At b (o + 2) → (set % 2 ^ (above - c) ≡ 0 → ⊥) → up < at
-  parent-lower up g some = omega (arith, parent-at up g, accepted-parent b ok at (h .table) (has-parent some))
+  pub parent-lower : (up : ℕ) → up ≡ u16At cat (o + 2) → (set % 2 ^ (above - c) ≡ 0 → ⊥) → up < at
+  parent-lower up g some = omega (arith, parent-at up g, accepted-parent cat ok at (h .table) (has-parent some))
 
-  pub laying-next : (end up : ℕ) (after moved : List ℕ) → end ≡ rows b t → LaidTable b o c (above - c) reached end set 0 keys after
-      → (set % 2 ^ (above - c) ≡ 0 → ⊥) → up ≡ u16At b (o + 2)
-      → Filled 0 end (λ q. u16At b (o + 6 + getD reached q 0 * (2 + 4 * c))) reached moved
-      → Laying b t set up (above - c) moved after
+  pub laying-next : (end up : ℕ) (after moved : List ℕ) → end ≡ rows cat t → LaidTable cat o c (above - c) reached end set 0 keys after
+      → (set % 2 ^ (above - c) ≡ 0 → ⊥) → up ≡ u16At cat (o + 2)
+      → Filled 0 end (λ q. u16At cat (o + 6 + getD reached q 0 * (2 + 4 * c))) reached moved
+      → Laying cat t set up (above - c) moved after
   laying-next end up after moved g m some u put =
       let n = not-root some in
       let p = parent-at up u in
-      subst (λ (up : ℕ). Laying b t set up (above - c) moved after) (sym p) (record {
-        table = omega (arith, accepted-parent b ok at (h .table) (has-parent some), h .table);
-        left = left-inherited ∙ inherited-step b ok at (h .table) n;
+      subst (λ (up : ℕ). Laying cat t set up (above - c) moved after) (sym p) (record {
+        table = omega (arith, accepted-parent cat ok at (h .table) (has-parent some), h .table);
+        left = left-inherited ∙ inherited-step cat ok at (h .table) n;
         some = omega (arith, h .some);
         wide = put .same-length ∙ h .wide;
         long = m .same-length ∙ h .long;
         exists = λ q l.
-            subst (λ (x : ℕ). x < rows b (parent b at)) (sym (leads q l))
-            (accepted-row b ok at (h .table) (has-parent some) (getD reached q 0) (h .exists q l));
+            subst (λ (x : ℕ). x < rows cat (parent cat at)) (sym (leads q l))
+            (accepted-row cat ok at (h .table) (has-parent some) (getD reached q 0) (h .exists q l));
         agree = λ k p q l lp lq.
             h .agree k p q (omega arith) lp lq
-            ∙ agree-above b ok at k (getD reached p 0) (getD reached q 0) (h .table) (omega (arith, left-inherited))
-            ∙ ap₂ (agreeAt b (parent b at) k) (sym (leads p lp)) (sym (leads q lq));
+            ∙ agree-above cat ok at k (getD reached p 0) (getD reached q 0) (h .table) (omega (arith, left-inherited))
+            ∙ ap₂ (agreeAt cat (parent cat at) k) (sym (leads p lp)) (sym (leads q lq));
         laid = laid-from end after g m;
       })
     where
-      leads : (q : ℕ) → q < rows b t → getD moved q 0 ≡ parentRow b at (getD reached q 0)
+      leads : (q : ℕ) → q < rows cat t → getD moved q 0 ≡ parentRow cat at (getD reached q 0)
       leads q l = filled-first put q (omega arith) ∙ parent-row-at (getD reached q 0)

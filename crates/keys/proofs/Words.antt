@@ -66,37 +66,37 @@ words-same f x y lx ly = at (ℕ-discrete x y)
     at (no n) = words-two (f x) (f y) x y lx ly n
 
 -- the words of the rows below q, filled one after the other
-pub record Filling (b : List ℕ) (from width : ℕ) (reached : List ℕ) (q : ℕ) (before words : List ℕ) : Type 0 where
-  pub put : Filled 0 q (λ p. cellWord (codeOf b from width (getD reached p 0)) (getD reached p 0)) before words
-  pub small : (p : ℕ) → p < q → codeOf b from width (getD reached p 0) ≤ missing
+pub record Filling (cat : List ℕ) (from width : ℕ) (reached : List ℕ) (q : ℕ) (before words : List ℕ) : Type 0 where
+  pub put : Filled 0 q (λ p. cellWord (codeOf cat from width (getD reached p 0)) (getD reached p 0)) before words
+  pub small : (p : ℕ) → p < q → codeOf cat from width (getD reached p 0) ≤ missing
 
-pub filling-begun : (b : List ℕ) (from width : ℕ) (reached before : List ℕ) → Filling b from width reached 0 before before
-filling-begun b from width reached before = record { put = filled-none; small = λ p l. absurd (omega arith) }
+pub filling-begun : (cat : List ℕ) (from width : ℕ) (reached before : List ℕ) → Filling cat from width reached 0 before before
+filling-begun cat from width reached before = record { put = filled-none; small = λ p l. absurd (omega arith) }
 
-pub filling-more : (b : List ℕ) (from width : ℕ) (reached : List ℕ) (q : ℕ) (before words : List ℕ) (code x : ℕ) → q < length before
-    → code ≡ codeOf b from width (getD reached q 0) → code ≤ missing → x ≡ cellWord code (getD reached q 0)
-    → Filling b from width reached q before words → Filling b from width reached (q + 1) before (set words q x)
-filling-more b from width reached q before words code x l e s f h =
+pub filling-more : (cat : List ℕ) (from width : ℕ) (reached : List ℕ) (q : ℕ) (before words : List ℕ) (code x : ℕ) → q < length before
+    → code ≡ codeOf cat from width (getD reached q 0) → code ≤ missing → x ≡ cellWord code (getD reached q 0)
+    → Filling cat from width reached q before words → Filling cat from width reached (q + 1) before (set words q x)
+filling-more cat from width reached q before words code x l e s f h =
     record {
       put = filled-more (h .put) (omega arith) (omega arith) l (f ∙ ap (λ (z : ℕ). cellWord z (getD reached q 0)) e);
       small = below-more (h .small) (omega arith);
     }
 
-pub filling-done : (b : List ℕ) (from width : ℕ) (reached : List ℕ) (end q : ℕ) (before words : List ℕ) → length before ≡ rowBound → end ≤ q
-    → Filling b from width reached q before words → AgreeWords b from width reached end words
+pub filling-done : (cat : List ℕ) (from width : ℕ) (reached : List ℕ) (end q : ℕ) (before words : List ℕ) → length before ≡ rowBound → end ≤ q
+    → Filling cat from width reached q before words → AgreeWords cat from width reached end words
 unfolding agreeBy
-filling-done b from width reached end q before words long l h =
+filling-done cat from width reached end q before words long l h =
     record {
       long = h .put .same-length ∙ long;
       same = λ p r lp lr.
           ap₂ eqb (filled-first (h .put) p (omega arith)) (filled-first (h .put) r (omega arith))
-          ∙ words-same (codeOf b from width) (getD reached p 0) (getD reached r 0) (h .small p (omega arith)) (h .small r (omega arith));
+          ∙ words-same (codeOf cat from width) (getD reached p 0) (getD reached r 0) (h .small p (omega arith)) (h .small r (omega arith));
     }
 
 -- the leaders by the words
-pub leader-by-words : (b : List ℕ) (from width : ℕ) (reached : List ℕ) (end : ℕ) (words : List ℕ) → AgreeWords b from width reached end words
-    → (q : ℕ) → q < end → firstSame words q ≡ leaderBy b from width reached q
+pub leader-by-words : (cat : List ℕ) (from width : ℕ) (reached : List ℕ) (end : ℕ) (words : List ℕ) → AgreeWords cat from width reached end words
+    → (q : ℕ) → q < end → firstSame words q ≡ leaderBy cat from width reached q
 unfolding firstSame leaderBy
-leader-by-words b from width reached end words h q l =
-    firstFrom-same (λ p. eqb (getD words p 0) (getD words q 0)) (λ p. agreeBy b from width reached p q) q 0
+leader-by-words cat from width reached end words h q l =
+    firstFrom-same (λ p. eqb (getD words p 0) (getD words q 0)) (λ p. agreeBy cat from width reached p q) q 0
     (λ p m n. h .same p q (omega arith) l)

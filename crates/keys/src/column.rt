@@ -26,7 +26,7 @@ fn word_of(code: u32, x: u16) -> u64
 
 // The words of the rows.
 pub fn fill_words(
-    b: &[u8],
+    cat: &[u8],
     from: usize,
     width: usize,
     reached: &[u16; ROWS],
@@ -34,13 +34,13 @@ pub fn fill_words(
     words: &mut [u64; ROWS],
 )
     requires { ⌜ (end ≤ rowBound) × (length (now words) ≡ rowBound) ⌝ }
-    requires { ⌜ ((q : ℕ) → q < end → from + getD (now reached) q 0 * width + 4 ≤ length (now b)) ⌝ }
-    ensures { λ _. ⌜ AgreeWords (now (b .entry)) from width (now (reached .entry)) end (now (words .exit)) ⌝ }
+    requires { ⌜ ((q : ℕ) → q < end → from + getD (now reached) q 0 * width + 4 ≤ length (now cat)) ⌝ }
+    ensures { λ _. ⌜ AgreeWords (now (cat .entry)) from width (now (reached .entry)) end (now (words .exit)) ⌝ }
 {
     let mut q: usize = 0;
     while q < end {
         let x = reached[q];
-        words[q] = word_of(code_at(b, from + index(x) * width), x);
+        words[q] = word_of(code_at(cat, from + index(x) * width), x);
         q += 1;
     }
 }

@@ -31,7 +31,7 @@ use leaders::SIZE;
 // Lays the members of a set among the c columns of the table at o, the last first, where the first is member low and the rows of the target lead
 // to the rows reached.
 fn lay_table(
-    b: &[u8],
+    cat: &[u8],
     o: usize,
     c: usize,
     low: usize,
@@ -41,8 +41,8 @@ fn lay_table(
     keys: &mut [u16; SIZE],
 )
     requires { ⌜ (o < 2 ^ 32) × (low + c ≤ columnBound) × (end ≤ rowBound) × (length (now keys) ≡ keysSize) ⌝ }
-    requires { ⌜ ((q : ℕ) → q < end → o + 6 + getD (now reached) q 0 * (2 + 4 * c) + (2 + 4 * c) ≤ length (now b)) ⌝ }
-    ensures { λ _. ⌜ LaidTable (now (b .entry)) o c low (now (reached .entry)) end set 0 (now (keys .entry)) (now (keys .exit)) ⌝ }
+    requires { ⌜ ((q : ℕ) → q < end → o + 6 + getD (now reached) q 0 * (2 + 4 * c) + (2 + 4 * c) ≤ length (now cat)) ⌝ }
+    ensures { λ _. ⌜ LaidTable (now (cat .entry)) o c low (now (reached .entry)) end set 0 (now (keys .entry)) (now (keys .exit)) ⌝ }
 {
     let mut words = [0; ROWS];
     let mut leaders = [0; ROWS];
@@ -52,7 +52,7 @@ fn lay_table(
         if (set >> (low + j)) % 2 == 0 {
             continue;
         }
-        fill_words(b, o + 8 + 4 * j, 2 + 4 * c, reached, end, &mut words);
+        fill_words(cat, o + 8 + 4 * j, 2 + 4 * c, reached, end, &mut words);
         group(&words, end, &mut leaders);
         put_keys(low + j, end, &leaders, keys);
     }
@@ -60,28 +60,28 @@ fn lay_table(
 
 // Lays the keys of the members in a set, table by table from the target up to the last that has one: the key of a row on a member is the lowest row
 // that agrees with it there.
-pub fn lay(b: &[u8], t: u32, n: u32, set: u32, keys: &mut [u16; SIZE])
-    requires { ⌜ Accepted (now b) ⌝ }
-    requires { ⌜ t < tables (now b) ⌝ }
-    requires { ⌜ n ≡ visible (now b) t ⌝ }
+pub fn lay(cat: &[u8], target: u32, n: u32, set: u32, keys: &mut [u16; SIZE])
+    requires { ⌜ Accepted (now cat) ⌝ }
+    requires { ⌜ target < tables (now cat) ⌝ }
+    requires { ⌜ n ≡ visible (now cat) target ⌝ }
     requires { ⌜ length (now keys) ≡ keysSize ⌝ }
-    ensures { λ _. ⌜ (length (now (keys .exit)) ≡ keysSize) × LaidFor (view (now (b .entry)) t) set (now (keys .exit)) ⌝ }
+    ensures { λ _. ⌜ (length (now (keys .exit)) ≡ keysSize) × LaidFor (view (now (cat .entry)) target) set (now (keys .exit)) ⌝ }
 {
-    let first = trailer(b) as usize;
-    let end = index(rows(b, t));
+    let first = trailer(cat) as usize;
+    let end = index(rows(cat, target));
     let mut reached = [0; ROWS];
     own_rows(end, &mut reached);
-    let mut at = t as usize;
+    let mut at = target as usize;
     let mut above = n as usize;
     loop {
-        let o = code_at(b, first + 4 * at) as usize;
-        let c = index(short_at(b, o));
+        let o = code_at(cat, first + 4 * at) as usize;
+        let c = index(short_at(cat, o));
         above -= c;
-        lay_table(b, o, c, above, &reached, end, set, keys);
+        lay_table(cat, o, c, above, &reached, end, set, keys);
         if set % power(above as u32) == 0 {
             return;
         }
-        parent_rows(b, o + 6, 2 + 4 * c, end, &mut reached);
-        at = index(short_at(b, o + 2));
+        parent_rows(cat, o + 6, 2 + 4 * c, end, &mut reached);
+        at = index(short_at(cat, o + 2));
     }
 }

@@ -16,27 +16,27 @@ product-small k c hk hc =
     mul-le-mul {n₁ = k} {m₁ = 2 + 4 * c} {n₂ = 2 ^ 32} {m₂ = 2 + 4 * 2 ^ 16} (le-of-lt hk) (omega arith)
 
 -- the sets of the targets from i on, n targets in all
-sets-first : (b : List ℕ) (n i : ℕ) → 0 < n → setsFrom b n i ≡ 2 ^ visible b i + setsFrom b (n - 1) (i + 1)
+sets-first : (cat : List ℕ) (n i : ℕ) → 0 < n → setsFrom cat n i ≡ 2 ^ visible cat i + setsFrom cat (n - 1) (i + 1)
 unfolding setsFrom
-sets-first b zero i h = omega arith
-sets-first b (suc n) i h =
+sets-first cat zero i h = omega arith
+sets-first cat (suc n) i h =
     let p : n ≡ suc n - 1 = omega arith in
     let q : suc i ≡ i + 1 = omega arith in
-    ap (λ (x : ℕ). 2 ^ visible b i + setsFrom b x (suc i)) p
-    ∙ ap (λ (x : ℕ). 2 ^ visible b i + setsFrom b (suc n - 1) x) q
+    ap (λ (x : ℕ). 2 ^ visible cat i + setsFrom cat x (suc i)) p
+    ∙ ap (λ (x : ℕ). 2 ^ visible cat i + setsFrom cat (suc n - 1) x) q
 
-pub sets-go-on : (b : List ℕ) (n i : ℕ) → i < n →
-    setsFrom b (n - i) i ≡ 2 ^ visible b i + setsFrom b (n - (i + 1)) (i + 1)
-sets-go-on b n i h =
+pub sets-go-on : (cat : List ℕ) (n i : ℕ) → i < n →
+    setsFrom cat (n - i) i ≡ 2 ^ visible cat i + setsFrom cat (n - (i + 1)) (i + 1)
+sets-go-on cat n i h =
     let p : n - i - 1 ≡ n - (i + 1) = omega arith in
-    sets-first b (n - i) i (omega arith) ∙ ap (λ (x : ℕ). 2 ^ visible b i + setsFrom b x (i + 1)) p
+    sets-first cat (n - i) i (omega arith) ∙ ap (λ (x : ℕ). 2 ^ visible cat i + setsFrom cat x (i + 1)) p
 
-pub sets-over : (b : List ℕ) (n i : ℕ) → n ≤ i → setsFrom b (n - i) i ≡ 0
+pub sets-over : (cat : List ℕ) (n i : ℕ) → n ≤ i → setsFrom cat (n - i) i ≡ 0
 unfolding setsFrom
-sets-over b n i h =
+sets-over cat n i h =
     let p : n - i ≡ 0 = omega arith in
-    ap (λ (x : ℕ). setsFrom b x i) p
+    ap (λ (x : ℕ). setsFrom cat x i) p
 
 -- a target has as many sets as the bound on columns allows, at most
-pub accepted-sets : (b : List ℕ) → Accepted b → (i : ℕ) → i < tables b → 2 ^ visible b i ≤ 2 ^ columnBound
-accepted-sets b e i h = pow-mono (accepted-visible b e i h)
+pub accepted-sets : (cat : List ℕ) → Accepted cat → (i : ℕ) → i < tables cat → 2 ^ visible cat i ≤ 2 ^ columnBound
+accepted-sets cat e i h = pow-mono (accepted-visible cat e i h)

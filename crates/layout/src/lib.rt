@@ -21,104 +21,104 @@ pub fn back(n: usize, k: usize) -> usize
 }
 
 // How many tables the trailer names.
-pub fn tables(b: &[u8]) -> u16
-    ensures { λ r. ⌜ r ≡ tablesOf (now (b .entry)) ⌝ }
+pub fn tables(cat: &[u8]) -> u16
+    ensures { λ r. ⌜ r ≡ tablesOf (now (cat .entry)) ⌝ }
 {
-    file::u16_at(b, back(b.len(), 6))
+    file::u16_at(cat, back(cat.len(), 6))
 }
 
 // Where the trailer starts.
-pub fn trailer(b: &[u8]) -> u32
-    ensures { λ r. ⌜ r ≡ trailerOf (now (b .entry)) ⌝ }
+pub fn trailer(cat: &[u8]) -> u32
+    ensures { λ r. ⌜ r ≡ trailerOf (now (cat .entry)) ⌝ }
 {
-    file::u32_at(b, back(b.len(), 4))
+    file::u32_at(cat, back(cat.len(), 4))
 }
 
-// Where table i starts.
-pub fn table_at(b: &[u8], i: u32) -> u32
-    ensures { λ r. ⌜ r ≡ tableAt (now (b .entry)) i ⌝ }
+// Where a table starts.
+pub fn table_at(cat: &[u8], table: u32) -> u32
+    ensures { λ r. ⌜ r ≡ tableAt (now (cat .entry)) table ⌝ }
 {
-    let t = trailer(b) as usize;
-    let n = i as usize;
-    file::u32_at(b, t + 4 * n)
+    let at = trailer(cat) as usize;
+    let n = table as usize;
+    file::u32_at(cat, at + 4 * n)
 }
 
-// How many columns table i has.
-pub fn columns(b: &[u8], i: u32) -> u16
-    ensures { λ r. ⌜ r ≡ columnsOf (now (b .entry)) i ⌝ }
+// How many columns a table has.
+pub fn columns(cat: &[u8], table: u32) -> u16
+    ensures { λ r. ⌜ r ≡ columnsOf (now (cat .entry)) table ⌝ }
 {
-    let t = table_at(b, i) as usize;
-    file::u16_at(b, t)
+    let at = table_at(cat, table) as usize;
+    file::u16_at(cat, at)
 }
 
-// The parent table of table i.
-pub fn parent(b: &[u8], i: u32) -> u16
-    ensures { λ r. ⌜ r ≡ parentOf (now (b .entry)) i ⌝ }
+// The parent table of a table.
+pub fn parent(cat: &[u8], table: u32) -> u16
+    ensures { λ r. ⌜ r ≡ parentOf (now (cat .entry)) table ⌝ }
 {
-    let t = table_at(b, i) as usize;
-    file::u16_at(b, t + 2)
+    let at = table_at(cat, table) as usize;
+    file::u16_at(cat, at + 2)
 }
 
-// How many rows table i has.
-pub fn rows(b: &[u8], i: u32) -> u16
-    ensures { λ r. ⌜ r ≡ rowsOf (now (b .entry)) i ⌝ }
+// How many rows a table has.
+pub fn rows(cat: &[u8], table: u32) -> u16
+    ensures { λ r. ⌜ r ≡ rowsOf (now (cat .entry)) table ⌝ }
 {
-    let t = table_at(b, i) as usize;
-    file::u16_at(b, t + 4)
+    let at = table_at(cat, table) as usize;
+    file::u16_at(cat, at + 4)
 }
 
-// Where row k of table i starts.
-pub fn row_at(b: &[u8], i: u32, k: u32) -> usize
-    ensures is { λ r. ⌜ r ≡ rowAt (now (b .entry)) i k ⌝ }
+// Where row k of a table starts.
+pub fn row_at(cat: &[u8], table: u32, k: u32) -> usize
+    ensures is { λ r. ⌜ r ≡ rowAt (now (cat .entry)) table k ⌝ }
     ensures small { λ r. ⌜ r < 2 ^ 60 ⌝ }
 {
-    let t = table_at(b, i) as usize;
-    let c = columns(b, i) as usize;
+    let at = table_at(cat, table) as usize;
+    let c = columns(cat, table) as usize;
     let n = k as usize;
-    t + 6 + n * (2 + 4 * c)
+    at + 6 + n * (2 + 4 * c)
 }
 
-// The parent row of row k of table i.
-pub fn parent_row(b: &[u8], i: u32, k: u32) -> u16
-    ensures { λ r. ⌜ r ≡ parentRow (now (b .entry)) i k ⌝ }
+// The parent row of row k of a table.
+pub fn parent_row(cat: &[u8], table: u32, k: u32) -> u16
+    ensures { λ r. ⌜ r ≡ parentRow (now (cat .entry)) table k ⌝ }
 {
-    file::u16_at(b, row_at(b, i, k))
+    file::u16_at(cat, row_at(cat, table, k))
 }
 
-// The first byte after table i's rows.
-pub fn table_end(b: &[u8], i: u32) -> usize
-    ensures is { λ r. ⌜ r ≡ tableEnd (now (b .entry)) i ⌝ }
+// The first byte after a table's rows.
+pub fn table_end(cat: &[u8], table: u32) -> usize
+    ensures is { λ r. ⌜ r ≡ tableEnd (now (cat .entry)) table ⌝ }
     ensures small { λ r. ⌜ r < 2 ^ 60 ⌝ }
 {
-    let n = rows(b, i) as u32;
-    row_at(b, i, n)
+    let n = rows(cat, table) as u32;
+    row_at(cat, table, n)
 }
 
-// How many columns are visible in table i.
-pub fn visible(b: &[u8], i: u32) -> u32
-    ensures { λ r. ⌜ r ≡ visibleOf (now (b .entry)) i ⌝ }
+// How many columns are visible in a table.
+pub fn visible(cat: &[u8], table: u32) -> u32
+    ensures { λ r. ⌜ r ≡ visibleOf (now (cat .entry)) table ⌝ }
 {
     let mut sum: u32 = 0;
-    let mut at = i;
+    let mut at = table;
     let mut left = TABLE_BOUND;
     while 0 < left {
-        let c = columns(b, at) as u32;
+        let c = columns(cat, at) as u32;
         sum += c;
         if at == 0 {
             return sum;
         }
-        at = parent(b, at) as u32;
+        at = parent(cat, at) as u32;
         left -= 1;
     }
     sum
 }
 
 // How many of them its ancestors have.
-pub fn inherited(b: &[u8], i: u32) -> u32
-    ensures { λ r. ⌜ r ≡ inheritedOf (now (b .entry)) i ⌝ }
+pub fn inherited(cat: &[u8], table: u32) -> u32
+    ensures { λ r. ⌜ r ≡ inheritedOf (now (cat .entry)) table ⌝ }
 {
-    let all = visible(b, i);
-    let own = columns(b, i) as u32;
+    let all = visible(cat, table);
+    let own = columns(cat, table) as u32;
     if own <= all {
         return all - own;
     }
@@ -126,15 +126,15 @@ pub fn inherited(b: &[u8], i: u32) -> u32
 }
 
 // The sets over all targets of an accepted catalogue.
-pub fn sets(b: &[u8]) -> u32
-    requires { ⌜ Accepted (now b) ⌝ }
-    ensures { λ r. ⌜ r ≡ setsOf (now (b .entry)) ⌝ }
+pub fn sets(cat: &[u8]) -> u32
+    requires { ⌜ Accepted (now cat) ⌝ }
+    ensures { λ r. ⌜ r ≡ setsOf (now (cat .entry)) ⌝ }
 {
-    let n = tables(b) as u32;
+    let n = tables(cat) as u32;
     let mut sum: u32 = 0;
     let mut target: u32 = 0;
     while target < n {
-        sum += power(visible(b, target));
+        sum += power(visible(cat, target));
         target += 1;
     }
     sum

@@ -1,5 +1,5 @@
 -- What an accepted catalogue satisfies: each line of the table of refusals 1 to 7, read off the check. Every law here is for bytes with
--- `Accepted b`, and a table t of them.
+-- `Accepted cat`, and a table t of them.
 use Prim.Native.Nat.{ℕ, _+_, _-_, _*_, _≤_, _<_}
 use mathlib.Core.Path.{_≡_, sym, subst, _∙_}
 use mathlib.Core.List.{List}
@@ -16,141 +16,141 @@ use Rattle.model.specs.Check.{Accepted, checkCode, sizeCode, trailerCode
 use Rattle.model.specs.declared.Refusal.the-variants.{BadTrailer, BadExtent, TableTooLarge}
 use Rattle.model.proofs.Grounds.{orElse-left, orElse-right, firstOf-each, ifEq-passes, ifEq-fails, ifLt-passes, ifLt-fails, ifLe-passes}
 
-module _ (b : List ℕ) (ok : Accepted b) where
+module _ (cat : List ℕ) (ok : Accepted cat) where
   -- the steps of the check
-  no-size : sizeCode b ≡ 0
+  no-size : sizeCode cat ≡ 0
   unfolding checkCode
   no-size = orElse-left _ _ ok
 
-  after-size : orElse (trailerCode b) (orElse (firstOf (tables b) 0 (tableCode b)) (leftCode b)) ≡ 0
+  after-size : orElse (trailerCode cat) (orElse (firstOf (tables cat) 0 (tableCode cat)) (leftCode cat)) ≡ 0
   unfolding checkCode
   after-size = orElse-right _ _ ok
 
-  no-trailer : trailerCode b ≡ 0
+  no-trailer : trailerCode cat ≡ 0
   no-trailer = orElse-left _ _ after-size
 
-  no-table-left : orElse (firstOf (tables b) 0 (tableCode b)) (leftCode b) ≡ 0
+  no-table-left : orElse (firstOf (tables cat) 0 (tableCode cat)) (leftCode cat) ≡ 0
   no-table-left = orElse-right _ _ after-size
 
-  no-left : leftCode b ≡ 0
+  no-left : leftCode cat ≡ 0
   no-left = orElse-right _ _ no-table-left
 
   -- 1: the file is long enough
-  pub accepted-size : smallestFile ≤ length b
+  pub accepted-size : smallestFile ≤ length cat
   unfolding sizeCode
   accepted-size = ifLt-fails _ _ _ _ (omega arith) no-size
 
   -- 2: there is a table, there are not too many, and the trailer ends the file
-  pub accepted-some : 0 < tables b
+  pub accepted-some : 0 < tables cat
   unfolding trailerCode
-  accepted-some = let n = ifEq-fails (tables b) 0 _ _ (omega arith) no-trailer in omega arith
+  accepted-some = let n = ifEq-fails (tables cat) 0 _ _ (omega arith) no-trailer in omega arith
 
-  after-some : ifLt tableBound (tables b) (number BadTrailer)
-      (ifEq (trailer b + 4 * tables b + 6) (length b) 0 (number BadTrailer)) ≡ 0
+  after-some : ifLt tableBound (tables cat) (number BadTrailer)
+      (ifEq (trailer cat + 4 * tables cat + 6) (length cat) 0 (number BadTrailer)) ≡ 0
   unfolding trailerCode
   after-some =
       let h = accepted-some in
-      let n : tables b ≡ 0 → ⊥ = omega arith in
+      let n : tables cat ≡ 0 → ⊥ = omega arith in
       sym (ifEq-no (number BadTrailer) n) ∙ no-trailer
 
-  pub accepted-tables : tables b ≤ tableBound
+  pub accepted-tables : tables cat ≤ tableBound
   accepted-tables = ifLt-fails _ _ _ _ (omega arith) after-some
 
-  pub accepted-trailer : trailer b + 4 * tables b + 6 ≡ length b
+  pub accepted-trailer : trailer cat + 4 * tables cat + 6 ≡ length cat
   accepted-trailer =
       ifEq-passes _ _ _ _ (omega arith) (sym (ifLt-no (number BadTrailer) accepted-tables) ∙ after-some)
 
   -- 3: nothing is left after the last table
-  pub accepted-left : tableEnd b (tables b - 1) ≡ trailer b
+  pub accepted-left : tableEnd cat (tables cat - 1) ≡ trailer cat
   unfolding leftCode
   accepted-left = ifEq-passes _ _ _ _ (omega arith) no-left
 
-  module _ (t : ℕ) (exists : t < tables b) where
+  module _ (t : ℕ) (exists : t < tables cat) where
     -- the steps of the check of a table
-    no-table : tableCode b t ≡ 0
+    no-table : tableCode cat t ≡ 0
     no-table =
-        subst (λ (i : ℕ). tableCode b i ≡ 0) (zero-add t)
-        (firstOf-each (tables b) 0 (tableCode b) (orElse-left _ _ no-table-left) t exists)
+        subst (λ (i : ℕ). tableCode cat i ≡ 0) (zero-add t)
+        (firstOf-each (tables cat) 0 (tableCode cat) (orElse-left _ _ no-table-left) t exists)
 
-    no-head : headCode b t ≡ 0
+    no-head : headCode cat t ≡ 0
     unfolding tableCode
     no-head = orElse-left _ _ no-table
 
-    after-head : orElse (boundCode b t)
-        (orElse (parentCode b t) (orElse (widthCode b t) (orElse (extentCode b t) (firstOf (rows b t) 0 (rowCode b t))))) ≡ 0
+    after-head : orElse (boundCode cat t)
+        (orElse (parentCode cat t) (orElse (widthCode cat t) (orElse (extentCode cat t) (firstOf (rows cat t) 0 (rowCode cat t))))) ≡ 0
     unfolding tableCode
     after-head = orElse-right _ _ no-table
 
-    no-bound : boundCode b t ≡ 0
+    no-bound : boundCode cat t ≡ 0
     no-bound = orElse-left _ _ after-head
 
-    after-bound : orElse (parentCode b t)
-        (orElse (widthCode b t) (orElse (extentCode b t) (firstOf (rows b t) 0 (rowCode b t)))) ≡ 0
+    after-bound : orElse (parentCode cat t)
+        (orElse (widthCode cat t) (orElse (extentCode cat t) (firstOf (rows cat t) 0 (rowCode cat t)))) ≡ 0
     after-bound = orElse-right _ _ after-head
 
-    no-parent : parentCode b t ≡ 0
+    no-parent : parentCode cat t ≡ 0
     no-parent = orElse-left _ _ after-bound
 
-    after-parent : orElse (widthCode b t) (orElse (extentCode b t) (firstOf (rows b t) 0 (rowCode b t))) ≡ 0
+    after-parent : orElse (widthCode cat t) (orElse (extentCode cat t) (firstOf (rows cat t) 0 (rowCode cat t))) ≡ 0
     after-parent = orElse-right _ _ after-bound
 
-    no-width : widthCode b t ≡ 0
+    no-width : widthCode cat t ≡ 0
     no-width = orElse-left _ _ after-parent
 
-    after-width : orElse (extentCode b t) (firstOf (rows b t) 0 (rowCode b t)) ≡ 0
+    after-width : orElse (extentCode cat t) (firstOf (rows cat t) 0 (rowCode cat t)) ≡ 0
     after-width = orElse-right _ _ after-parent
 
-    no-row : (k : ℕ) → k < rows b t → rowCode b t k ≡ 0
+    no-row : (k : ℕ) → k < rows cat t → rowCode cat t k ≡ 0
     no-row k l =
-        subst (λ (i : ℕ). rowCode b t i ≡ 0) (zero-add k)
-        (firstOf-each (rows b t) 0 (rowCode b t) (orElse-right _ _ after-width) k l)
+        subst (λ (i : ℕ). rowCode cat t i ≡ 0) (zero-add k)
+        (firstOf-each (rows cat t) 0 (rowCode cat t) (orElse-right _ _ after-width) k l)
 
     -- 3: the table starts where it must, and its first 6 bytes and its rows end at or before the trailer
-    pub accepted-start : tableAt b t ≡ startOf b t
+    pub accepted-start : tableAt cat t ≡ startOf cat t
     unfolding headCode
     accepted-start = ifEq-passes _ _ _ _ (omega arith) no-head
 
-    pub accepted-head : tableAt b t + 6 ≤ trailer b
+    pub accepted-head : tableAt cat t + 6 ≤ trailer cat
     unfolding headCode
     accepted-head =
         ifLe-passes _ _ _ _ (omega arith) (sym (ifEq-yes (number BadExtent) accepted-start) ∙ no-head)
 
-    pub accepted-end : tableEnd b t ≤ trailer b
+    pub accepted-end : tableEnd cat t ≤ trailer cat
     unfolding extentCode
     accepted-end = ifLe-passes _ _ _ _ (omega arith) (orElse-left _ _ after-width)
 
     -- 4: not too many columns or rows
-    pub accepted-columns : columns b t ≤ columnBound
+    pub accepted-columns : columns cat t ≤ columnBound
     unfolding boundCode
     accepted-columns = ifLt-fails _ _ _ _ (omega arith) no-bound
 
-    pub accepted-rows : rows b t ≤ rowBound
+    pub accepted-rows : rows cat t ≤ rowBound
     unfolding boundCode
     accepted-rows =
         ifLt-fails _ _ _ _ (omega arith) (sym (ifLt-no (number TableTooLarge) accepted-columns) ∙ no-bound)
 
     -- 5: the root has no parent table, and any other's is lower-numbered
-    pub accepted-root : t ≡ 0 → parent b t ≡ noParent
+    pub accepted-root : t ≡ 0 → parent cat t ≡ noParent
     unfolding parentCode
     accepted-root e = ifEq-passes _ _ _ _ (omega arith) (sym (ifEq-yes _ e) ∙ no-parent)
 
-    pub accepted-parent : 0 < t → parent b t < t
+    pub accepted-parent : 0 < t → parent cat t < t
     unfolding parentCode
     accepted-parent h =
         let n : t ≡ 0 → ⊥ = omega arith in
         ifLt-passes _ _ _ _ (omega arith) (sym (ifEq-no _ n) ∙ no-parent)
 
     -- 6: not too many visible columns
-    pub accepted-visible : visible b t ≤ columnBound
+    pub accepted-visible : visible cat t ≤ columnBound
     unfolding widthCode
     accepted-visible = ifLt-fails _ _ _ _ (omega arith) no-width
 
     -- 7: a root row has no parent row, and any other's is one of the parent table's rows
-    pub accepted-root-row : t ≡ 0 → (k : ℕ) → k < rows b t → parentRow b t k ≡ noParent
+    pub accepted-root-row : t ≡ 0 → (k : ℕ) → k < rows cat t → parentRow cat t k ≡ noParent
     unfolding rowCode
     accepted-root-row e k l = ifEq-passes _ _ _ _ (omega arith) (sym (ifEq-yes _ e) ∙ no-row k l)
 
-    pub accepted-row : 0 < t → (k : ℕ) → k < rows b t → parentRow b t k < rows b (parent b t)
+    pub accepted-row : 0 < t → (k : ℕ) → k < rows cat t → parentRow cat t k < rows cat (parent cat t)
     unfolding rowCode
     accepted-row h k l =
         let n : t ≡ 0 → ⊥ = omega arith in

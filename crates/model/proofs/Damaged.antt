@@ -27,14 +27,14 @@ full (suc m) zero rest l = refl
 full (suc m) (suc n) rest l = full m n rest (omega arith)
 
 -- a number by its bytes
-u16-is : (b : List ℕ) (i w x : ℕ) → byteAt b i ≡ w → byteAt b (i + 1) ≡ x → u16At b i ≡ w + 256 * x
+u16-is : (cat : List ℕ) (i w x : ℕ) → byteAt cat i ≡ w → byteAt cat (i + 1) ≡ x → u16At cat i ≡ w + 256 * x
 unfolding u16At
-u16-is b i w x e f = omega arith
+u16-is cat i w x e f = omega arith
 
-u32-is : (b : List ℕ) (i w x y z : ℕ) → byteAt b i ≡ w → byteAt b (i + 1) ≡ x → byteAt b (i + 2) ≡ y → byteAt b (i + 3) ≡ z
-    → u32At b i ≡ w + 256 * x + 65536 * y + 16777216 * z
+u32-is : (cat : List ℕ) (i w x y z : ℕ) → byteAt cat i ≡ w → byteAt cat (i + 1) ≡ x → byteAt cat (i + 2) ≡ y → byteAt cat (i + 3) ≡ z
+    → u32At cat i ≡ w + 256 * x + 65536 * y + 16777216 * z
 unfolding u32At
-u32-is b i w x y z e f g h = omega arith
+u32-is cat i w x y z e f g h = omega arith
 
 -- n is a 2-byte number, and the trailer's place a 4-byte number
 module _ (n : ℕ) (short : u16At (bytes2 n) 0 ≡ n) (word : u32At (bytes4 (6 + 2 * n)) 0 ≡ 6 + 2 * n) where
@@ -63,38 +63,38 @@ module _ (n : ℕ) (short : u16At (bytes2 n) 0 ≡ n) (word : u32At (bytes4 (6 +
   one : tables (rowsOnly n) ≡ 1
   unfolding tables trailerOf codesOf bytes2 bytes4
   one =
-      let b = rowsOnly n in
-      u16-is b (length b - 6) 1 0 (ap (byteAt b) (omega (arith, long)) ∙ trailer-byte 4) (ap (byteAt b) (omega (arith, long)) ∙ trailer-byte 5)
+      let cat = rowsOnly n in
+      u16-is cat (length cat - 6) 1 0 (ap (byteAt cat) (omega (arith, long)) ∙ trailer-byte 4) (ap (byteAt cat) (omega (arith, long)) ∙ trailer-byte 5)
 
   trailer-at : trailer (rowsOnly n) ≡ 6 + 2 * n
   unfolding trailer u32At trailerOf codesOf bytes2 bytes4
   trailer-at =
-      let b = rowsOnly n in
-      u32-is b (length b - 4) _ _ _ _ (ap (byteAt b) (omega (arith, long)) ∙ trailer-byte 6) (ap (byteAt b) (omega (arith, long)) ∙ trailer-byte 7)
-      (ap (byteAt b) (omega (arith, long)) ∙ trailer-byte 8) (ap (byteAt b) (omega (arith, long)) ∙ trailer-byte 9)
+      let cat = rowsOnly n in
+      u32-is cat (length cat - 4) _ _ _ _ (ap (byteAt cat) (omega (arith, long)) ∙ trailer-byte 6) (ap (byteAt cat) (omega (arith, long)) ∙ trailer-byte 7)
+      (ap (byteAt cat) (omega (arith, long)) ∙ trailer-byte 8) (ap (byteAt cat) (omega (arith, long)) ∙ trailer-byte 9)
       ∙ word
 
   at0 : tableAt (rowsOnly n) 0 ≡ 0
   unfolding tableAt trailerOf codesOf bytes2 bytes4
   at0 =
-      let b = rowsOnly n in
-      u32-is b (trailer b + 4 * 0) 0 0 0 0 (ap (byteAt b) (omega (arith, trailer-at)) ∙ trailer-byte 0) (ap (byteAt b) (omega (arith, trailer-at)) ∙ trailer-byte 1)
-      (ap (byteAt b) (omega (arith, trailer-at)) ∙ trailer-byte 2) (ap (byteAt b) (omega (arith, trailer-at)) ∙ trailer-byte 3)
+      let cat = rowsOnly n in
+      u32-is cat (trailer cat + 4 * 0) 0 0 0 0 (ap (byteAt cat) (omega (arith, trailer-at)) ∙ trailer-byte 0) (ap (byteAt cat) (omega (arith, trailer-at)) ∙ trailer-byte 1)
+      (ap (byteAt cat) (omega (arith, trailer-at)) ∙ trailer-byte 2) (ap (byteAt cat) (omega (arith, trailer-at)) ∙ trailer-byte 3)
 
   byte-at : (i k : ℕ) → i ≡ k → byteAt (rowsOnly n) i ≡ byteAt (rowsOnly n) k
   byte-at i k e = ap (byteAt (rowsOnly n)) e
 
   none : columns (rowsOnly n) 0 ≡ 0
   unfolding columns rowsOnly headOf bytes2
-  none = let b = rowsOnly n in u16-is b (tableAt b 0) 0 0 (byte-at (tableAt b 0) 0 at0) (byte-at (tableAt b 0 + 1) 1 (omega (arith, at0)))
+  none = let cat = rowsOnly n in u16-is cat (tableAt cat 0) 0 0 (byte-at (tableAt cat 0) 0 at0) (byte-at (tableAt cat 0 + 1) 1 (omega (arith, at0)))
 
   up : parent (rowsOnly n) 0 ≡ noParent
   unfolding parent rowsOnly headOf bytes2
-  up = let b = rowsOnly n in u16-is b (tableAt b 0 + 2) 255 255 (byte-at (tableAt b 0 + 2) 2 (omega (arith, at0))) (byte-at (tableAt b 0 + 2 + 1) 3 (omega (arith, at0)))
+  up = let cat = rowsOnly n in u16-is cat (tableAt cat 0 + 2) 255 255 (byte-at (tableAt cat 0 + 2) 2 (omega (arith, at0))) (byte-at (tableAt cat 0 + 2 + 1) 3 (omega (arith, at0)))
 
   are : rows (rowsOnly n) 0 ≡ n
   unfolding rows rowsOnly headOf bytes2 u16At
-  are = let b = rowsOnly n in u16-is b (tableAt b 0 + 4) _ _ (byte-at (tableAt b 0 + 4) 4 (omega (arith, at0))) (byte-at (tableAt b 0 + 4 + 1) 5 (omega (arith, at0))) ∙ short
+  are = let cat = rowsOnly n in u16-is cat (tableAt cat 0 + 4) _ _ (byte-at (tableAt cat 0 + 4) 4 (omega (arith, at0))) (byte-at (tableAt cat 0 + 4 + 1) 5 (omega (arith, at0))) ∙ short
 
   row-at : (k : ℕ) → rowAt (rowsOnly n) 0 k ≡ 6 + 2 * k
   unfolding rowAt
@@ -107,9 +107,9 @@ module _ (n : ℕ) (short : u16At (bytes2 n) 0 ≡ n) (word : u32At (bytes4 (6 +
   parent-is : (k : ℕ) → k < n → parentRow (rowsOnly n) 0 k ≡ noParent
   unfolding parentRow
   parent-is k l =
-      let b = rowsOnly n in
-      u16-is b (rowAt b 0 k) 255 255 (ap (byteAt b) (row-at k) ∙ row-byte (2 * k) (omega arith))
-      (ap (byteAt b) (omega (arith, row-at k)) ∙ row-byte (2 * k + 1) (omega arith))
+      let cat = rowsOnly n in
+      u16-is cat (rowAt cat 0 k) 255 255 (ap (byteAt cat) (row-at k) ∙ row-byte (2 * k) (omega arith))
+      (ap (byteAt cat) (omega (arith, row-at k)) ∙ row-byte (2 * k + 1) (omega arith))
 
   -- no ground among the rows, and none besides but for the number of rows
   rows-none : firstOf (rows (rowsOnly n) 0) 0 (rowCode (rowsOnly n) 0) ≡ 0

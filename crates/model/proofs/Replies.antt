@@ -68,17 +68,17 @@ question-replies =
     }
 
 -- with words enough, the grounds against a listing call are those of its place and of its run
-enough : (b : List ℕ) (s : Seen Entry) → Accepted b → workBound ≤ length (s .work)
-    → Obeys (cells (ordinary b))
-    (orElse (placeCode (length (cells (ordinary b))) (s .place))
-    (roomCode (s .budget) (length (s .run)) (drop (s .place) (cells (ordinary b)))))
+enough : (cat : List ℕ) (s : Seen Entry) → Accepted cat → workBound ≤ length (s .work)
+    → Obeys (cells (ordinary cat))
+    (orElse (placeCode (length (cells (ordinary cat))) (s .place))
+    (roomCode (s .budget) (length (s .run)) (drop (s .place) (cells (ordinary cat)))))
     s
-    → ListMeaning b s
+    → ListMeaning cat s
 unfolding callCode wordsCode
-enough b s z w o =
-    subst (λ (n : ℕ). Obeys (cells (ordinary b)) n s)
+enough cat s z w o =
+    subst (λ (n : ℕ). Obeys (cells (ordinary cat)) n s)
     (sym
-    (after-none (checkCode b) z (cells (ordinary b)) (s .place) (s .budget) (length (s .run)) (length (s .work))
+    (after-none (checkCode cat) z (cells (ordinary cat)) (s .place) (s .budget) (length (s .run)) (length (s .work))
     ∙ orElse-next _ (ifLt-no (number TooFewWords) w)))
     o
 
@@ -133,14 +133,14 @@ packed-replies =
       runKept = refl;
     }
 
-at-the-bound : (b : List ℕ) → length b ≡ 32768 → checkCode b ≡ 2 → answerText b ≡ refusedLine 2
+at-the-bound : (cat : List ℕ) → length cat ≡ 32768 → checkCode cat ≡ 2 → answerText cat ≡ refusedLine 2
 unfolding answerText
-at-the-bound b l e =
-    ifLt-no tooLong (omega arith) ∙ ifEq-no (listingText b) (λ z. omega (arith, e, z)) ∙ ap refusedLine e
+at-the-bound cat l e =
+    ifLt-no tooLong (omega arith) ∙ ifEq-no (listingText cat) (λ z. omega (arith, e, z)) ∙ ap refusedLine e
 
-too-long : (b : List ℕ) → 32768 < length b → answerText b ≡ tooLong
+too-long : (cat : List ℕ) → 32768 < length cat → answerText cat ≡ tooLong
 unfolding answerText
-too-long b h = ifLt-yes _ h
+too-long cat h = ifLt-yes _ h
 
 pub text-replies : TextReplies
 unfolding computes

@@ -55,9 +55,9 @@ module _ (f : ℕ → ℕ) where
       at (inr h) (inl g) = inr (h .0, h .1 ∙ ap f g)
       at (inr h) (inr k) = inr (h .0, h .1 ∙ k .1)
 
-pub view-equivalence : (b : List ℕ) (i : ℕ) → Equivalence (view b i)
+pub view-equivalence : (cat : List ℕ) (i : ℕ) → Equivalence (view cat i)
 unfolding agreeAt
-view-equivalence b i =
+view-equivalence cat i =
     record {
       reflexive = λ v p. reflexive (cells v) (row v p);
       symmetric = λ v p q. symmetric (cells v) (row v p) (row v q);
@@ -66,7 +66,7 @@ view-equivalence b i =
   where
     -- the row of the column's table that a row reaches, and the column's cell in a row there
     row : ℕ → ℕ → ℕ
-    row v p = ancestor b (owner b i v) i p
+    row v p = ancestor cat (owner cat i v) i p
 
     cells : ℕ → ℕ → ℕ
-    cells v x = cell b (owner b i v) x (v - inherited b (owner b i v))
+    cells v x = cell cat (owner cat i v) x (v - inherited cat (owner cat i v))

@@ -83,30 +83,30 @@ lines-short-each (e ∷ es) h =
 pub flat-from : {A : Type 0} (p : ℕ) (cs : List (List A)) → flat cs ≡ flat (take p cs) ++ flat (drop p cs)
 flat-from p cs = ap flat (sym (take-append-drop p cs)) ∙ flat-append (take p cs) (drop p cs)
 
-module _ (b : List ℕ) (ok : Accepted b) where
+module _ (cat : List ℕ) (ok : Accepted cat) where
   -- the entries of an accepted catalogue have such lines
-  entry-short : (e : Entry) → List·Memᴰ e (flat (cells (ordinary b))) → length (entryLine e) ≤ 13
-  entry-short e m = at (stands-is (ordinary b) e .0 m)
+  entry-short : (e : Entry) → List·Memᴰ e (flat (cells (ordinary cat))) → length (entryLine e) ≤ 13
+  entry-short e m = at (stands-is (ordinary cat) e .0 m)
     where
-      at : Stands (ordinary b) e → length (entryLine e) ≤ 13
+      at : Stands (ordinary cat) e → length (entryLine e) ≤ 13
       at h =
-          let few = accepted-tables b ok in
-          let narrow = accepted-visible b ok (e .target) (h .target) in
-          let lefts : 2 ^ visible b (e .target) ≤ 2 ^ columnBound = pow-mono narrow in
+          let few = accepted-tables cat ok in
+          let narrow = accepted-visible cat ok (e .target) (h .target) in
+          let lefts : 2 ^ visible cat (e .target) ≤ 2 ^ columnBound = pow-mono narrow in
           let below = h .left in
           let exists = h .target in
           line-short e (omega arith) (omega arith)
-          (⊎-elim (λ (r : (_ ≤ e .right) × (e .right < visible b (e .target))). let s = r .1 in inl (omega arith)) inr
-          (right-is b (e .target) (e .right) .0 (h .right)))
+          (⊎-elim (λ (r : (_ ≤ e .right) × (e .right < visible cat (e .target))). let s = r .1 in inl (omega arith)) inr
+          (right-is cat (e .target) (e .right) .0 (h .right)))
 
   -- so have those of the sets from a place on, up to a later one
-  pub lines-short : (p k : ℕ) → length (linesOf (flat (take k (drop p (cells (ordinary b))))))
-      ≤ 13 * length (flat (take k (drop p (cells (ordinary b)))))
+  pub lines-short : (p k : ℕ) → length (linesOf (flat (take k (drop p (cells (ordinary cat))))))
+      ≤ 13 * length (flat (take k (drop p (cells (ordinary cat)))))
   lines-short p k =
       lines-short-each (flat (take k (drop p cs))) (λ e m. entry-short e (later e (earlier e m)))
     where
       cs : List (List Entry)
-      cs = cells (ordinary b)
+      cs = cells (ordinary cat)
 
       earlier : (e : Entry) → List·Memᴰ e (flat (take k (drop p cs))) → List·Memᴰ e (flat (drop p cs))
       earlier e m =
@@ -118,42 +118,42 @@ module _ (b : List ℕ) (ok : Accepted b) where
           subst (λ (l : List Entry). List·Memᴰ e l) (sym (flat-from p cs)) (Memᴰ·append-right (flat (take p cs)) m)
 
   -- the head line has 40 bytes at most
-  pub head-short : length (headLine (tables b) (sets b) (length (flat (cells (ordinary b))))) ≤ 40
+  pub head-short : length (headLine (tables cat) (sets cat) (length (flat (cells (ordinary cat))))) ≤ 40
   unfolding headLine
   head-short =
-      let few = accepted-tables b ok in
-      let some = sets-few b ok in
-      let all = entries-few b ok in
+      let few = accepted-tables cat ok in
+      let some = sets-few cat ok in
+      let all = entries-few cat ok in
       simp length-append
       (omega (
         arith,
-        decimal-short 1 (tables b) (omega arith),
-        decimal-short 6 (sets b) (omega arith),
-        decimal-short 7 (length (flat (cells (ordinary b)))) (omega arith),
+        decimal-short 1 (tables cat) (omega arith),
+        decimal-short 6 (sets cat) (omega arith),
+        decimal-short 7 (length (flat (cells (ordinary cat)))) (omega arith),
       ))
 
   -- the whole text of a listing
-  pub listing-short : length (listingText b) < 2 ^ 32
+  pub listing-short : length (listingText cat) < 2 ^ 32
   unfolding listingText
   listing-short =
-      let some = sets-few b ok in
-      let all = entries-few b ok in
-      let lines = lines-short-each (flat (cells (ordinary b))) entry-short in
+      let some = sets-few cat ok in
+      let all = entries-few cat ok in
+      let lines = lines-short-each (flat (cells (ordinary cat))) entry-short in
       omega (
         arith,
         head-short,
-        length-append (headLine (tables b) (sets b) (length (flat (cells (ordinary b)))))
-            (linesOf (flat (cells (ordinary b)))),
+        length-append (headLine (tables cat) (sets cat) (length (flat (cells (ordinary cat)))))
+            (linesOf (flat (cells (ordinary cat)))),
       )
 
 -- what the first bytes of a longer input say is what all of it says, so a program need not read more than one byte past the bound
-pub bytes-enough : (b : List ℕ) → answerText (take (suc fileBound) b) ≡ answerText b
+pub bytes-enough : (cat : List ℕ) → answerText (take (suc fileBound) cat) ≡ answerText cat
 unfolding answerText
-bytes-enough b = ⊎-elim (λ h. ap answerText (take-all (suc fileBound) b h)) long (le-or-lt (length b) (suc fileBound))
+bytes-enough cat = ⊎-elim (λ h. ap answerText (take-all (suc fileBound) cat h)) long (le-or-lt (length cat) (suc fileBound))
   where
-    long : suc fileBound < length b → answerText (take (suc fileBound) b) ≡ answerText b
+    long : suc fileBound < length cat → answerText (take (suc fileBound) cat) ≡ answerText cat
     long h =
-        ifLt-yes _ (omega (arith, length-take-le (suc fileBound) b (omega arith))) ∙ sym (ifLt-yes _ (omega arith))
+        ifLt-yes _ (omega (arith, length-take-le (suc fileBound) cat (omega arith))) ∙ sym (ifLt-yes _ (omega arith))
 
 -- the album's text, byte for byte
 pub album-text : answerText album ≡ albumLines

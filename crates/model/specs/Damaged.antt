@@ -14,26 +14,26 @@ use Rattle.model.specs.Encode.{headOf, rowOf, trailerOf}
 
 -- every ground in a file, in the order of the check: not only the first
 unfoldable pub groundsFrom : List ℕ → ℕ → ℕ → List ℕ
-groundsFrom b zero i = leftCode b ∷ []
-groundsFrom b (suc n) i =
-    headCode b i ∷ boundCode b i ∷ parentCode b i ∷ widthCode b i ∷ extentCode b i ∷ firstOf (rows b i) 0 (rowCode b i)
-    ∷ groundsFrom b n (suc i)
+groundsFrom cat zero i = leftCode cat ∷ []
+groundsFrom cat (suc n) i =
+    headCode cat i ∷ boundCode cat i ∷ parentCode cat i ∷ widthCode cat i ∷ extentCode cat i ∷ firstOf (rows cat i) 0 (rowCode cat i)
+    ∷ groundsFrom cat n (suc i)
 
 unfoldable pub notZero : List ℕ → List ℕ
 notZero [] = []
 notZero (c ∷ cs) = ifEq c 0 (notZero cs) (c ∷ notZero cs)
 
 unfoldable pub grounds : List ℕ → List ℕ
-grounds b = notZero (sizeCode b ∷ trailerCode b ∷ groundsFrom b (tables b) 0)
+grounds cat = notZero (sizeCode cat ∷ trailerCode cat ∷ groundsFrom cat (tables cat) 0)
 
 -- the file is refused with a number, and all grounds in it are these
-pub record Refused (b : List ℕ) (n : ℕ) (all : List ℕ) : Type 0 where
-  pub code : checkCode b ≡ n
-  pub alone : grounds b ≡ all
+pub record Refused (cat : List ℕ) (n : ℕ) (all : List ℕ) : Type 0 where
+  pub code : checkCode cat ≡ n
+  pub alone : grounds cat ≡ all
 
 -- the only ground in the file
 abbrev pub Only : List ℕ → ℕ → Type 0
-Only b n = Refused b n (n ∷ [])
+Only cat n = Refused cat n (n ∷ [])
 
 -- 1: the smallest file without its last byte
 unfoldable pub cut : List ℕ

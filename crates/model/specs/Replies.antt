@@ -59,13 +59,13 @@ seen place budget run work reply runThen workThen =
 
 -- so it is with whatever words, at least 16,384; afterwards they are all 0, or as they were
 abbrev pub ListZeroes : List ℕ → ℕ → ℕ → List Entry → Reply → List Entry → Type 0
-ListZeroes b place budget run reply runThen =
+ListZeroes cat place budget run reply runThen =
     (work : List ℕ) → workBound ≤ length work
-    → ListMeaning b (seen place budget run work reply runThen (replicate (length work) 0))
+    → ListMeaning cat (seen place budget run work reply runThen (replicate (length work) 0))
 
 abbrev pub ListKeeps : List ℕ → ℕ → ℕ → List Entry → Reply → List Entry → Type 0
-ListKeeps b place budget run reply runThen =
-    (work : List ℕ) → workBound ≤ length work → ListMeaning b (seen place budget run work reply runThen work)
+ListKeeps cat place budget run reply runThen =
+    (work : List ℕ) → workBound ≤ length work → ListMeaning cat (seen place budget run work reply runThen work)
 
 -- the album's sets have an entry each at the places 3, 6 and 8
 pub record ListReplies : Type 0 where
@@ -160,5 +160,5 @@ pub record TextReplies : Type 0 where
   pub refused6 : answerText tooWide ≡ 114 ∷ 101 ∷ 102 ∷ 117 ∷ 115 ∷ 101 ∷ 100 ∷ 32 ∷ 54 ∷ 10 ∷ []
   pub refused16 : refusedLine 16 ≡ 114 ∷ 101 ∷ 102 ∷ 117 ∷ 115 ∷ 101 ∷ 100 ∷ 32 ∷ 49 ∷ 54 ∷ 10 ∷ []
   -- at the bound a file is looked at, as this one that is refused by 2; one byte more is `too long`, whatever the bytes
-  pub atTheBound : (b : List ℕ) → length b ≡ 32768 → checkCode b ≡ 2 → answerText b ≡ 114 ∷ 101 ∷ 102 ∷ 117 ∷ 115 ∷ 101 ∷ 100 ∷ 32 ∷ 50 ∷ 10 ∷ []
-  pub long : (b : List ℕ) → 32768 < length b → answerText b ≡ 116 ∷ 111 ∷ 111 ∷ 32 ∷ 108 ∷ 111 ∷ 110 ∷ 103 ∷ 10 ∷ []
+  pub atTheBound : (cat : List ℕ) → length cat ≡ 32768 → checkCode cat ≡ 2 → answerText cat ≡ 114 ∷ 101 ∷ 102 ∷ 117 ∷ 115 ∷ 101 ∷ 100 ∷ 32 ∷ 50 ∷ 10 ∷ []
+  pub long : (cat : List ℕ) → 32768 < length cat → answerText cat ≡ 116 ∷ 111 ∷ 111 ∷ 32 ∷ 108 ∷ 111 ∷ 110 ∷ 103 ∷ 10 ∷ []

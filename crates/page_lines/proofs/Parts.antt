@@ -16,9 +16,9 @@ pub puts-line : (e : Entry) {at : ℕ} {b₀ b₁ b₂ : List ℕ} {n₁ n₂ : 
 unfolding entryLine
 puts-line e p q = puts-both (entryText e) lineFeed p q
 
-pub puts-no-line : (run : List Entry) (at : ℕ) (b : List ℕ) → Puts (linesOf (take 0 run)) at b b at
+pub puts-no-line : (run : List Entry) (at : ℕ) (cat : List ℕ) → Puts (linesOf (take 0 run)) at cat cat at
 unfolding linesOf
-puts-no-line run at b = puts-none at b
+puts-no-line run at cat = puts-none at cat
 
 -- one entry more
 one-more : (run : List Entry) (i : ℕ) (d : Entry) → i < length run

@@ -59,28 +59,28 @@ first-records : (c r : ℕ) (es rest run : List Entry) → take r run ≡ es ++ 
 first-records c r es rest run e l h =
     sym (take-take c r run (omega arith)) ∙ ap (take c) e ∙ take-at es rest c (sym l)
 
-module _ (b : List ℕ) (last : ℕ) (h : Listable b last) (place : ℕ) (inRange : place ≤ last) (work : List ℕ)
+module _ (cat : List ℕ) (last : ℕ) (h : Listable cat last) (place : ℕ) (inRange : place ≤ last) (work : List ℕ)
     (enough : workBound ≤ length work) (r : ℕ) (room : suc columnBound ≤ r) where
   abbrev cs : List (List Entry)
-  cs = cells (ordinary b)
+  cs = cells (ordinary cat)
 
   -- the statement about the call, with room for r records
   abbrev Call : ListAnswer → List Entry → List ℕ → Type 0
-  Call a run workThen = ListMeaning b (seen place last (replicate r (entry 0 0 0)) work (listReply a) (take r run) workThen)
+  Call a run workThen = ListMeaning cat (seen place last (replicate r (entry 0 0 0)) work (listReply a) (take r run) workThen)
 
   lastly : last ≡ length cs
-  lastly = h .whole ∙ sym (cells-length b)
+  lastly = h .whole ∙ sym (cells-length cat)
 
   places : place ≤ length cs
   places = omega (arith, lastly)
 
   wide : (p : ℕ) → length (getD cs p []) ≤ length (replicate r (entry 0 0 0))
-  wide p = omega (arith, cell-short (ordinary b) (ordinary-bounded b (h .accepted)) p, length-replicate r (entry 0 0 0))
+  wide p = omega (arith, cell-short (ordinary cat) (ordinary-bounded cat (h .accepted)) p, length-replicate r (entry 0 0 0))
 
   -- nothing stands against it
-  no-code : listCode b place last (length (replicate r (entry 0 0 0))) (length work) ≡ 0
+  no-code : listCode cat place last (length (replicate r (entry 0 0 0))) (length work) ≡ 0
   no-code =
-      after-none (checkCode b) (h .accepted) (cells (ordinary b)) place last (length (replicate r (entry 0 0 0))) (length work)
+      after-none (checkCode cat) (h .accepted) (cells (ordinary cat)) place last (length (replicate r (entry 0 0 0))) (length work)
       ∙ call-none cs place last (length (replicate r (entry 0 0 0))) (length work) enough places (λ _ _. wide place)
 
   pub never-refused : (why : Refusal) (run : List Entry) (workThen : List ℕ) → Call (answer.Refused why) run workThen → ⊥
@@ -115,26 +115,26 @@ module _ (b : List ℕ) (last : ℕ) (h : Listable b last) (place : ℕ) (inRang
       }
 
 -- the same for the run by value, where the statement is that of its contract
-module _ (b : List ℕ) (last : ℕ) (h : Listable b last) (place : ℕ) (inRange : place ≤ last) (work : List ℕ)
+module _ (cat : List ℕ) (last : ℕ) (h : Listable cat last) (place : ℕ) (inRange : place ≤ last) (work : List ℕ)
     (enough : workBound ≤ length work) where
-  filled-call : (a : ListAnswer) (run : List Entry) (workThen : List ℕ) → FilledBy b place last runBound work a run workThen
-      → Call b last h place inRange work enough (cap runBound) (omega (arith, room-whole)) a run workThen
+  filled-call : (a : ListAnswer) (run : List Entry) (workThen : List ℕ) → FilledBy cat place last runBound work a run workThen
+      → Call cat last h place inRange work enough (cap runBound) (omega (arith, room-whole)) a run workThen
   filled-call a run workThen f = f .listed
 
   pub filled-answers : (why : Refusal) (a : ListAnswer) (run : List Entry) (workThen : List ℕ)
-      → FilledBy b place last runBound work a run workThen → a ≡ answer.Refused why → ⊥
+      → FilledBy cat place last runBound work a run workThen → a ≡ answer.Refused why → ⊥
   filled-answers why a run workThen f e =
-      never-refused b last h place inRange work enough (cap runBound) (omega (arith, room-whole)) why run workThen
-      (filled-call (answer.Refused why) run workThen (subst (λ (x : ListAnswer). FilledBy b place last runBound work x run workThen) e f))
+      never-refused cat last h place inRange work enough (cap runBound) (omega (arith, room-whole)) why run workThen
+      (filled-call (answer.Refused why) run workThen (subst (λ (x : ListAnswer). FilledBy cat place last runBound work x run workThen) e f))
 
   pub ran : (reached k count : ℕ) (a : ListAnswer) (run : List Entry) (workThen : List ℕ)
-      → FilledBy b place last runBound work a run workThen → a ≡ answer.Listed reached k count
-      → Ran (cells (ordinary b)) last place reached count run
+      → FilledBy cat place last runBound work a run workThen → a ≡ answer.Listed reached k count
+      → Ran (cells (ordinary cat)) last place reached count run
   ran reached k count a run workThen f e =
-      ran-room b last h place inRange work enough (cap runBound) (omega (arith, room-whole)) reached k count run workThen
+      ran-room cat last h place inRange work enough (cap runBound) (omega (arith, room-whole)) reached k count run workThen
       (omega (arith, room-whole))
       (filled-call (answer.Listed reached k count) run workThen
-      (subst (λ (x : ListAnswer). FilledBy b place last runBound work x run workThen) e f))
+      (subst (λ (x : ListAnswer). FilledBy cat place last runBound work x run workThen) e f))
 
 -- the records that are entries are among those of the run
 pub ran-within : (cs : List (List Entry)) (last place reached count : ℕ) (run : List Entry) → Ran cs last place reached count run

@@ -15,7 +15,7 @@ check-code-requires : tie.Need-check-code-requires
 check-code-requires c κs = search needs
 
 refusal-requires : tie.Need-refusal-requires
-refusal-requires c κs = omega (arith, check-code-le (now (c .before .before .before .args .b)))
+refusal-requires c κs = omega (arith, check-code-le (now (c .before .before .before .args .cat)))
 
 returns : tie.Need-returns
 unfolding checkMeaning

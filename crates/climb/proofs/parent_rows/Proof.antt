@@ -36,7 +36,7 @@ row c = let l = c .before .before .before .loop in c .index .ensures ∙ l .inv 
 
 within : (c : tie.After-index Inv-loop μ-loop)
     → let a = c .before .before .before .before .before .args in
-    a .o + c .index .result * a .width + 2 ≤ length (now (a .b))
+    a .o + c .index .result * a .width + 2 ≤ length (now (a .cat))
 within c =
     let a = c .before .before .before .before .before .args in
     omega (
@@ -72,7 +72,7 @@ loop-again c =
     let l = c .before .before .before .before .loop in (
       omega arith,
       filled-more (l .inv .1) (omega arith) (omega arith) (omega arith)
-          (c .short-at .ensures ∙ ap (λ (x : ℕ). u16At (now (a .b)) (a .o + x * a .width)) (row (c .before))),
+          (c .short-at .ensures ∙ ap (λ (x : ℕ). u16At (now (a .cat)) (a .o + x * a .width)) (row (c .before))),
     )
 
 returns : tie.Need-returns Inv-loop μ-loop

@@ -10,8 +10,8 @@ use Rattle.grounds.proofs.extent_code.Tie as tie
 trailer-requires : tie.Need-trailer-requires
 trailer-requires c κs = search needs
 
-cast-t : tie.Need-cast-t
-cast-t c = search needs
+cast-end : tie.Need-cast-end
+cast-end c = search needs
 
 table-end-requires : tie.Need-table-end-requires
 table-end-requires c κs = search needs
@@ -26,4 +26,4 @@ returns-2 c = is-if-not-le _ (omega arith) refl
 
 pub extent-code-spec : {M : Type 1} → statement M
 extent-code-spec =
-    tie.close (tie.spec trailer-requires cast-t table-end-requires returns returns-2)
+    tie.close (tie.spec trailer-requires cast-end table-end-requires returns returns-2)

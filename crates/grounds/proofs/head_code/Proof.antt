@@ -23,8 +23,8 @@ returns c = is-if-ne _ (omega arith) refl
 trailer-requires : tie.Need-trailer-requires
 trailer-requires c κs = search needs
 
-cast-t : tie.Need-cast-t
-cast-t c = search needs
+cast-end : tie.Need-cast-end
+cast-end c = search needs
 
 add-if2 : tie.Need-add-if2
 add-if2 c = search needs
@@ -46,7 +46,7 @@ head-code-spec =
     start-of-requires
     returns
     trailer-requires
-    cast-t
+    cast-end
     add-if2
     returns-2
     returns-3)

@@ -22,8 +22,8 @@ cast-last c = search needs
 trailer-requires : tie.Need-trailer-requires
 trailer-requires c κs = search needs
 
-cast-t : tie.Need-cast-t
-cast-t c = search needs
+cast-end : tie.Need-cast-end
+cast-end c = search needs
 
 table-end-requires : tie.Need-table-end-requires
 table-end-requires c κs = search needs
@@ -51,7 +51,7 @@ left-code-spec =
     back-requires
     cast-last
     trailer-requires
-    cast-t
+    cast-end
     table-end-requires
     returns
     returns-2)

@@ -89,7 +89,7 @@ loop-again c =
       none-below-more _ (now-at .k) _ (now-at .inv .0) (omega arith) (sym e ∙ omega arith),
       search needs,
       search needs,
-      omega (arith, next-row (now (args .b)) (args .i) (now-at .k)),
+      omega (arith, next-row (now (args .cat)) (args .table) (now-at .k)),
       search needs,
     )
 

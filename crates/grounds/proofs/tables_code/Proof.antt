@@ -31,10 +31,10 @@ table-code-requires c κs = search needs
 returns : tie.Need-returns Inv-loop μ-loop
 returns c =
     let now-at = c .before .before .before .loop in
-    first-found _ (now-at .i) _ (now-at .inv .0) (omega arith) (c .before .table-code .ensures) (c .if1 .taken)
+    first-found _ (now-at .table) _ (now-at .inv .0) (omega arith) (c .before .table-code .ensures) (c .if1 .taken)
 
-add-i : tie.Need-add-i Inv-loop μ-loop
-add-i c = search needs
+add-table : tie.Need-add-table Inv-loop μ-loop
+add-table c = search needs
 
 loop-less : tie.Need-loop-less Inv-loop μ-loop
 loop-less c = search needs
@@ -42,10 +42,10 @@ loop-less c = search needs
 loop-again : tie.Need-loop-again Inv-loop μ-loop
 loop-again c =
     let now-at = c .before .before .before .loop in
-    (none-below-more _ (now-at .i) _ (now-at .inv .0) (omega arith) (omega arith), search needs, search needs)
+    (none-below-more _ (now-at .table) _ (now-at .inv .0) (omega arith) (omega arith), search needs, search needs)
 
 returns-2 : tie.Need-returns-2 Inv-loop μ-loop
-returns-2 c = none-found _ (c .before .loop .i) _ (c .before .loop .inv .0) (omega arith)
+returns-2 c = none-found _ (c .before .loop .table) _ (c .before .loop .inv .0) (omega arith)
 
 pub tables-code-spec : {M : Type 1} → statement M
 tables-code-spec =
@@ -58,7 +58,7 @@ tables-code-spec =
     loop-holds
     table-code-requires
     returns
-    add-i
+    add-table
     loop-less
     loop-again
     returns-2)

@@ -24,8 +24,8 @@ returns-2 c = is-if-ne _ (omega arith) (is-if-lt _ (omega arith) refl)
 trailer-requires : tie.Need-trailer-requires
 trailer-requires c κs = search needs
 
-cast-t : tie.Need-cast-t
-cast-t c = search needs
+cast-end : tie.Need-cast-end
+cast-end c = search needs
 
 cast-k : tie.Need-cast-k
 cast-k c = search needs
@@ -56,7 +56,7 @@ trailer-code-spec =
     returns
     returns-2
     trailer-requires
-    cast-t
+    cast-end
     cast-k
     mul-if3
     add-if3

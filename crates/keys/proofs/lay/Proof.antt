@@ -40,7 +40,7 @@ own-rows-requires : tie.Need-own-rows-requires Inv-loop μ-loop
 own-rows-requires c κs =
     let a = c .before .before .before .before .before .args in
     let h = c .before .before .before .before .before .pre in (
-      omega (arith, c .before .index .ensures, c .before .before .rows .ensures, accepted-rows (now (a .b)) (h .0) (a .t) (h .1 .0)),
+      omega (arith, c .before .index .ensures, c .before .before .rows .ensures, accepted-rows (now (a .cat)) (h .0) (a .target) (h .1 .0)),
       length-replicate {A = ℕ} rowBound 0,
     )
 
@@ -48,19 +48,19 @@ loop-holds : tie.Need-loop-holds Inv-loop μ-loop
 loop-holds c =
     let a = c .before .before .before .before .before .before .args in
     let h = c .before .before .before .before .before .before .pre in
-    laying-begun (now (a .b)) (a .t) (a .n) (a .set) (c .before .before .index .result) _ _ _ (h .1 .0) (h .1 .1 .0)
+    laying-begun (now (a .cat)) (a .target) (a .n) (a .set) (c .before .before .index .result) _ _ _ (h .1 .0) (h .1 .1 .0)
     (c .before .before .index .ensures ∙ c .before .before .before .rows .ensures) (length-replicate {A = ℕ} rowBound 0) (h .1 .1 .1)
     (c .own-rows .ensures)
 
 -- the bytes, accepted; the target's rows; and where the table stands and how many columns it has
 abbrev bytes : tie.At-loop Inv-loop μ-loop → List ℕ
-bytes c = now (c .before .before .before .before .before .before .before .args .b)
+bytes c = now (c .before .before .before .before .before .before .before .args .cat)
 
 ok : (c : tie.At-loop Inv-loop μ-loop) → Accepted (bytes c)
 ok c = c .before .before .before .before .before .before .before .pre .0
 
 ends : (c : tie.At-loop Inv-loop μ-loop)
-    → c .before .before .before .index .result ≡ rows (bytes c) (c .before .before .before .before .before .before .before .args .t)
+    → c .before .before .before .index .result ≡ rows (bytes c) (c .before .before .before .before .before .before .before .args .target)
 ends c = c .before .before .before .index .ensures ∙ c .before .before .before .before .rows .ensures
 
 entry : (c : tie.At-loop Inv-loop μ-loop)
@@ -120,7 +120,7 @@ few c =
 short : (c : tie.At-loop Inv-loop μ-loop) → c .before .before .before .index .result ≤ rowBound
 short c =
     let h = c .before .before .before .before .before .before .before .pre in
-    omega (arith, ends c, accepted-rows (bytes c) (ok c) (c .before .before .before .before .before .before .before .args .t) (h .1 .0))
+    omega (arith, ends c, accepted-rows (bytes c) (ok c) (c .before .before .before .before .before .before .before .args .target) (h .1 .0))
 
 within : (c : tie.After-index2 Inv-loop μ-loop) (q : ℕ) → q < c .before .before .before .before .before .before .index .result
     → c .before .before .code-at .result + 6 + getD (c .before .before .before .loop .reached) q 0 * (2 + 4 * c .index2 .result)

@@ -7,8 +7,8 @@ use Rattle.layout.proofs.columns.Tie as tie
 table-at-requires : tie.Need-table-at-requires
 table-at-requires c κs = search needs
 
-cast-t : tie.Need-cast-t
-cast-t c = search needs
+cast-at : tie.Need-cast-at
+cast-at c = search needs
 
 u16-at-requires : tie.Need-u16-at-requires
 u16-at-requires c κs = search needs
@@ -18,4 +18,4 @@ unfolding columns
 returns c = cc
 
 pub columns-spec : {M : Type 1} → statement M
-columns-spec = tie.close (tie.spec table-at-requires cast-t u16-at-requires returns)
+columns-spec = tie.close (tie.spec table-at-requires cast-at u16-at-requires returns)

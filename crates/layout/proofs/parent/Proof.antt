@@ -7,8 +7,8 @@ use Rattle.layout.proofs.parent.Tie as tie
 table-at-requires : tie.Need-table-at-requires
 table-at-requires c κs = search needs
 
-cast-t : tie.Need-cast-t
-cast-t c = search needs
+cast-at : tie.Need-cast-at
+cast-at c = search needs
 
 add-u16-at : tie.Need-add-u16-at
 add-u16-at c = search needs
@@ -21,4 +21,4 @@ unfolding parent
 returns c = cc
 
 pub parent-spec : {M : Type 1} → statement M
-parent-spec = tie.close (tie.spec table-at-requires cast-t add-u16-at u16-at-requires returns)
+parent-spec = tie.close (tie.spec table-at-requires cast-at add-u16-at u16-at-requires returns)

@@ -9,8 +9,8 @@ use Rattle.layout.proofs.row_at.Tie as tie
 table-at-requires : tie.Need-table-at-requires
 table-at-requires c κs = search needs
 
-cast-t : tie.Need-cast-t
-cast-t c = search needs
+cast-at : tie.Need-cast-at
+cast-at c = search needs
 
 columns-requires : tie.Need-columns-requires
 columns-requires c κs = search needs
@@ -46,7 +46,7 @@ row-at-spec =
     tie.close
     (tie.spec
     table-at-requires
-    cast-t
+    cast-at
     columns-requires
     cast-c
     add-result

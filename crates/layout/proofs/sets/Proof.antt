@@ -13,14 +13,14 @@ use Rattle.layout.proofs.sets.Statement.{statement}
 use Rattle.layout.proofs.sets.Tie as tie
 
 abbrev Inv-loop : tie.InvT-loop
-Inv-loop b n sum₀ target₀ sum target =
-    (sum + setsFrom b (n - target) target ≡ sets b)
-    × (n ≡ tables b)
+Inv-loop cat n sum₀ target₀ sum target =
+    (sum + setsFrom cat (n - target) target ≡ sets cat)
+    × (n ≡ tables cat)
     × (target ≤ n)
     × (sum ≤ target * 2 ^ columnBound)
 
 abbrev μ-loop : tie.MeasureT-loop
-μ-loop b n sum₀ target₀ sum target = n - target
+μ-loop cat n sum₀ target₀ sum target = n - target
 
 tables-requires : tie.Need-tables-requires Inv-loop μ-loop
 tables-requires c κs = search needs
@@ -31,8 +31,8 @@ cast-n c = search needs
 loop-holds : tie.Need-loop-holds Inv-loop μ-loop
 unfolding sets
 loop-holds c =
-    let all : c .tables .result - 0 ≡ tables (now (c .before .before .args .b)) = omega arith in
-    let rest = ap (λ (m : ℕ). setsFrom (now (c .before .before .args .b)) m 0) all in
+    let all : c .tables .result - 0 ≡ tables (now (c .before .before .args .cat)) = omega arith in
+    let rest = ap (λ (m : ℕ). setsFrom (now (c .before .before .args .cat)) m 0) all in
     (omega arith, search needs, search needs, search needs)
 
 visible-requires : tie.Need-visible-requires Inv-loop μ-loop
@@ -41,14 +41,14 @@ visible-requires c κs = search needs
 power-requires : tie.Need-power-requires Inv-loop μ-loop
 power-requires c κs =
     let start = c .before .before .before .before .before in
-    omega (arith, accepted-visible (now (start .args .b)) (start .pre) (c .before .before .loop .target) (omega arith))
+    omega (arith, accepted-visible (now (start .args .cat)) (start .pre) (c .before .before .loop .target) (omega arith))
 
 add-sum : tie.Need-add-sum Inv-loop μ-loop
 add-sum c =
     let start = c .before .before .before .before .before .before in
-    let few = accepted-tables (now (start .args .b)) (start .pre) in
+    let few = accepted-tables (now (start .args .cat)) (start .pre) in
     let loop = c .before .before .before .loop in
-    let small = accepted-sets (now (start .args .b)) (start .pre) (loop .target) (omega arith) in
+    let small = accepted-sets (now (start .args .cat)) (start .pre) (loop .target) (omega arith) in
     let same = c .power .ensures ∙ ap (λ (k : ℕ). 2 ^ k) (c .before .visible .ensures) in
     omega arith
 
@@ -62,16 +62,16 @@ loop-again : tie.Need-loop-again Inv-loop μ-loop
 loop-again c =
     let start = c .before .before .before .before .before .before in
     let loop = c .before .before .before .loop in
-    let small = accepted-sets (now (start .args .b)) (start .pre) (loop .target) (omega arith) in
+    let small = accepted-sets (now (start .args .cat)) (start .pre) (loop .target) (omega arith) in
     let n = c .before .before .before .before .tables .result in
-    let step = sets-go-on (now (start .args .b)) n (loop .target) (omega arith) in
+    let step = sets-go-on (now (start .args .cat)) n (loop .target) (omega arith) in
     let same = c .power .ensures ∙ ap (λ (k : ℕ). 2 ^ k) (c .before .visible .ensures) in
     (omega arith, search needs, search needs, omega arith)
 
 returns : tie.Need-returns Inv-loop μ-loop
 returns c =
-    let b = now (c .before .before .before .before .args .b) in
-    let over = sets-over b (c .before .before .tables .result) (c .before .loop .target) (omega arith) in
+    let cat = now (c .before .before .before .before .args .cat) in
+    let over = sets-over cat (c .before .before .tables .result) (c .before .loop .target) (omega arith) in
     omega arith
 
 pub sets-spec : {M : Type 1} → statement M

@@ -7,8 +7,8 @@ use Rattle.layout.proofs.table_at.Tie as tie
 trailer-requires : tie.Need-trailer-requires
 trailer-requires c κs = search needs
 
-cast-t : tie.Need-cast-t
-cast-t c = search needs
+cast-at : tie.Need-cast-at
+cast-at c = search needs
 
 mul-u32-at : tie.Need-mul-u32-at
 mul-u32-at c = search needs
@@ -25,4 +25,4 @@ returns c = cc
 
 pub table-at-spec : {M : Type 1} → statement M
 table-at-spec =
-    tie.close (tie.spec trailer-requires cast-t mul-u32-at add-u32-at u32-at-requires returns)
+    tie.close (tie.spec trailer-requires cast-at mul-u32-at add-u32-at u32-at-requires returns)

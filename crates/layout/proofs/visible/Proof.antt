@@ -35,7 +35,7 @@ returns : tie.Need-returns Inv-loop μ-loop
 returns c =
     omega (
       arith,
-      climb-ends (now (c .before .before .before .before .before .args .b)) (c .before .before .before .loop .left)
+      climb-ends (now (c .before .before .before .before .before .args .cat)) (c .before .before .before .loop .left)
           (c .before .before .before .loop .at) (omega arith) (omega arith),
     )
 
@@ -56,7 +56,7 @@ loop-again c = (
   rw (c .parent .ensures)
       (omega (
         arith,
-        climb-goes-on (now (c .before .before .before .before .before .before .args .b))
+        climb-goes-on (now (c .before .before .before .before .before .before .args .cat))
             (c .before .before .before .before .loop .left) (c .before .before .before .before .loop .at) (omega arith)
             (c .before .if1 .left),
       )),
@@ -68,7 +68,7 @@ returns-2 : tie.Need-returns-2 Inv-loop μ-loop
 returns-2 c =
     omega (
       arith,
-      climb-over (now (c .before .before .before .args .b)) (c .before .loop .left) (c .before .loop .at) (omega arith),
+      climb-over (now (c .before .before .before .args .cat)) (c .before .loop .left) (c .before .loop .at) (omega arith),
     )
 
 pub visible-spec : {M : Type 1} → statement M

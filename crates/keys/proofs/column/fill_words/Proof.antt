@@ -31,7 +31,7 @@ index-requires c κs = search needs
 -- the row that is read stands within the bytes
 within : (c : tie.After-index Inv-loop μ-loop)
     → let a = c .before .before .before .before .before .args in
-    a .from + c .index .result * a .width + 4 ≤ length (now (a .b))
+    a .from + c .index .result * a .width + 4 ≤ length (now (a .cat))
 within c =
     let a = c .before .before .before .before .before .args in
     omega (
@@ -69,15 +69,15 @@ loop-again c =
     let a = c .before .before .before .before .before .before .before .args in
     let l = c .before .before .before .before .before .loop in (
       omega arith,
-      filling-more (now (a .b)) (a .from) (a .width) (now (a .reached)) (l .q) _ _ _ _ (omega arith)
-          (c .before .code-at .ensures ∙ ap (λ (x : ℕ). codeOf (now (a .b)) (a .from) (a .width) x) (c .before .before .index .ensures))
+      filling-more (now (a .cat)) (a .from) (a .width) (now (a .reached)) (l .q) _ _ _ _ (omega arith)
+          (c .before .code-at .ensures ∙ ap (λ (x : ℕ). codeOf (now (a .cat)) (a .from) (a .width) x) (c .before .before .index .ensures))
           (omega arith) (c .word-of .ensures) (l .inv .1),
     )
 
 returns : tie.Need-returns Inv-loop μ-loop
 returns c =
     let a = c .before .before .before .args in
-    filling-done (now (a .b)) (a .from) (a .width) (now (a .reached)) (a .end) _ _ _ (c .before .before .before .pre .0 .1) (omega arith)
+    filling-done (now (a .cat)) (a .from) (a .width) (now (a .reached)) (a .end) _ _ _ (c .before .before .before .pre .0 .1) (omega arith)
     (c .before .loop .inv .1)
 
 pub fill-words-spec : {M : Type 1} → statement M
