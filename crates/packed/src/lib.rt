@@ -21,7 +21,7 @@ use model::PackAnswer;
 use model::ReadAnswer;
 use model::Refusal;
 use model::TRAILER_BYTES;
-use packing::first_pass;
+use packing::begin_checks;
 use packing::step;
 use unpacking::count_in;
 use unpacking::distance_in;
@@ -69,7 +69,7 @@ pub struct Reader<'a> {
     answer: OpenAnswer,
 }
 
-// A reading of a file, at its first entry. It passes over the list once, for `open`; what follows costs no pass.
+// A reading of a file, at its first entry. It goes over the list once, for `open`, and not again.
 pub fn start<'a>(file: &'a [u8]) -> Reader<'a>
     ensures { λ r. ⌜ Begun (file .entry) r ⌝ }
 {
@@ -120,7 +120,7 @@ pub fn pack(entries: &[Entry], out: &mut [u8]) -> PackAnswer
     ensures { λ r. ⌜ (packReply r ≡ packMeaning (now (entries .entry)) (length (now (out .entry)))) × (now (out .exit) ≡ outputAfter (now (entries .entry)) (now (out .entry))) ⌝ }
 {
     let k = entries.len();
-    let mut s = first_pass(k, out);
+    let mut s = begin_checks(k, out);
     while s.going {
         let at = s.at;
         let e = entries[at];

@@ -1,4 +1,4 @@
--- Packing passes the entries twice: it checks them, then it writes them. What holds between two steps.
+-- Packing goes over the entries twice: it checks them, then it writes them. What holds between two steps.
 use Prim.Native.Nat.{ℕ, _+_, _-_, _*_, _≤_, _<_}
 use mathlib.Core.Path.{_≡_}
 use mathlib.Core.List.{List, [], _++_}
@@ -39,7 +39,7 @@ abbrev pub steps : ℕ → Packing → ℕ
 steps k s = stepsOf (s .going) (s .writing) (s .at) k
 
 -- a step may be made
-pub record Ready (k : ℕ) (s : Packing) (out : List ℕ) : Type 0 where
+pub record Steppable (k : ℕ) (s : Packing) (out : List ℕ) : Type 0 where
   pub going : s .going ≡ true
   pub next : s .at < k
   pub room : s .writing ≡ true → distanceOf k ≤ length out
@@ -61,12 +61,12 @@ pub record Finished (k : ℕ) (out : List ℕ) (r : Packing) (out′ : List ℕ)
   pub trailer : out′ ≡ withTrailer out k
 
 -- k checked entries are to be written, or the output is too short
-pub record Passed (k : ℕ) (out : List ℕ) (r : Packing) (out′ : List ℕ) : Type 0 where
+pub record WritingBegun (k : ℕ) (out : List ℕ) (r : Packing) (out′ : List ℕ) : Type 0 where
   pub on : (es : List Entry) → length es ≡ k → entriesCode es ≡ 0 → On es out r out′
   pub few : steps k r ≤ k
 
 -- k entries are to be checked
-pub record Started (k : ℕ) (out : List ℕ) (r : Packing) (out′ : List ℕ) : Type 0 where
+pub record ChecksBegun (k : ℕ) (out : List ℕ) (r : Packing) (out′ : List ℕ) : Type 0 where
   pub on : (es : List Entry) → length es ≡ k → On es out r out′
 
 -- the entry e is written at its index

@@ -1,5 +1,5 @@
-// Not for callers: packing entries one by one, as `packed::pack` has them pass twice: `first_pass` begins, `step` goes on with the entry that is to
-// come, until an answer stands.
+// Not for callers: packing entries one by one. `packed::pack` goes over them twice, to check them and to write them: `begin_checks` begins,
+// `step` goes on with the entry that is to come, until an answer stands.
 // Relies on the definitions of `model`, on `file` for numbers in a file and on `entries` for 15. Called by `packed`.
 ghost use Prim.Native.Nat.{_+_, _≤_, _<_};
 ghost use mathlib.Core.Path.{_≡_};
@@ -9,7 +9,7 @@ ghost use lib.ListN.{length};
 ghost use lib.Seq.{sets};
 ghost use Rattle.model.specs.Entries.{entryBytes, bytesOf};
 ghost use Rattle.model.specs.Packing.{distanceOf};
-ghost use Rattle.packing.specs.Packing.{Started, Passed, Wrote, Finished, Ready, Stepped};
+ghost use Rattle.packing.specs.Packing.{ChecksBegun, WritingBegun, Wrote, Finished, Steppable, Stepped};
 use entries::fine_after;
 use file::put_u16;
 use file::put_u32;
@@ -19,8 +19,8 @@ use model::PackAnswer;
 use model::Refusal;
 use model::TRAILER_BYTES;
 
-// Where packing stands: the entries are passed twice, first to check them, then to write them. While it is going on, an entry is to come:
-// the pass, its index, and the entry before it. Else the answer.
+// Where packing stands: all entries are checked first, and then written. While it is going on, an entry is to come: whether it is to be
+// written, its index, and the entry before it. Else the answer.
 pub struct Packing {
     pub going: bool,
     pub writing: bool,
@@ -92,9 +92,9 @@ fn finish(k: usize, out: &mut [u8]) -> Packing
     stopped(PackAnswer::Packed { bytes: bytes })
 }
 
-// All entries are checked: 16, and the second pass begins.
-fn second_pass(k: usize, out: &mut [u8]) -> Packing
-    ensures { λ r. ⌜ Passed k (now (out .entry)) r (now (out .exit)) ⌝ }
+// All entries are checked: 16, and writing begins.
+fn begin_writing(k: usize, out: &mut [u8]) -> Packing
+    ensures { λ r. ⌜ WritingBegun k (now (out .entry)) r (now (out .exit)) ⌝ }
 {
     if too_short(k, out.len()) {
         return stopped(PackAnswer::Refused(Refusal::OutputTooShort));
@@ -113,12 +113,12 @@ fn second_pass(k: usize, out: &mut [u8]) -> Packing
     )
 }
 
-// The first pass begins.
-pub fn first_pass(k: usize, out: &mut [u8]) -> Packing
-    ensures { λ r. ⌜ Started k (now (out .entry)) r (now (out .exit)) ⌝ }
+// Checking begins.
+pub fn begin_checks(k: usize, out: &mut [u8]) -> Packing
+    ensures { λ r. ⌜ ChecksBegun k (now (out .entry)) r (now (out .exit)) ⌝ }
 {
     if k == 0 {
-        return second_pass(k, out);
+        return begin_writing(k, out);
     }
     going_on(
         false,
@@ -131,7 +131,7 @@ pub fn first_pass(k: usize, out: &mut [u8]) -> Packing
     )
 }
 
-// A step of the second pass: writes the entry at an index, and behind the last the trailer.
+// A step of writing: writes the entry at an index, and behind the last the trailer.
 fn write_step(k: usize, at: usize, e: Entry, out: &mut [u8]) -> Packing
     requires { ⌜ (at < k) × (distanceOf k ≤ length (now out)) ⌝ }
     ensures { λ r. ⌜ Wrote k at e (now (out .entry)) r (now (out .exit)) ⌝ }
@@ -143,9 +143,9 @@ fn write_step(k: usize, at: usize, e: Entry, out: &mut [u8]) -> Packing
     finish(k, out)
 }
 
-// A step of either pass, with the entry that was to come.
+// A step of checking or of writing, with the entry that was to come.
 pub fn step(k: usize, s: Packing, e: Entry, out: &mut [u8]) -> Packing
-    requires { ⌜ Ready k s (now out) ⌝ }
+    requires { ⌜ Steppable k s (now out) ⌝ }
     ensures { λ r. ⌜ Stepped k s e (now (out .entry)) r (now (out .exit)) ⌝ }
 {
     let at = s.at;
@@ -159,5 +159,5 @@ pub fn step(k: usize, s: Packing, e: Entry, out: &mut [u8]) -> Packing
     if at + 1 < k {
         return going_on(false, at + 1, e);
     }
-    second_pass(k, out)
+    begin_writing(k, out)
 }

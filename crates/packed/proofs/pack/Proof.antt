@@ -4,7 +4,7 @@
 --     goes-on    a turn that passes an entry: it ends nearer, in the state that `step` answered
 --     ends       the turn that leaves: the output is shut, and the answer is returned
 --     walk       the code up to the loop
--- What `first_pass` and `step` say is not looked into: every fact about it is cited from `Passes.antt`. Assumes nothing.
+-- What `begin_checks` and `step` say is not looked into: every fact about it is cited from `Progress.antt`. Assumes nothing.
 use mathlib.Core.Path.{_≡_, refl, sym}
 use Prim.Native.Nat.{ℕ, _*_, _<_, _^_}
 use native.Mathlib.Omega.{arith}
@@ -61,18 +61,18 @@ use Rattle.model.proofs.Entry.Laws as R′
 use Rattle.model.proofs.PackAnswer as L
 use Rattle.model.proofs.PackAnswer.Laws as L′
 use Rattle.packing.specs.declared.Packing.{Packing}
-use Rattle.packing.specs.Packing.{Started, Stepped, steps}
+use Rattle.packing.specs.Packing.{ChecksBegun, Stepped, steps}
 use Rattle.packing.proofs.Packing as P
 use Rattle.packing.proofs.Packing.Laws as P′
-use Rattle.packing.proofs.Passes.{Stands, stands-first, stands-ready, stands-next, stands-last}
+use Rattle.packing.proofs.Progress.{Stands, stands-first, stands-ready, stands-next, stands-last}
 use Rattle.lent.proofs.Walk.{full, empty, _◂_, leaves, met}
 use Rattle.lent.proofs.Lent as lent
 use Rattle.packed.proofs.Rest.{after}
 use Rattle.lent.proofs.Called.{Callee, lastOwn, calls, calls-last}
-use Rattle.packing.proofs.first_pass as start
+use Rattle.packing.proofs.begin_checks as start
 use Rattle.packing.proofs.step as step
-use Rattle.packing.proofs.first_pass.Symbol as start-def
-use Rattle.packing.proofs.first_pass.Met as start-thm
+use Rattle.packing.proofs.begin_checks.Symbol as start-def
+use Rattle.packing.proofs.begin_checks.Met as start-thm
 use Rattle.packing.proofs.step.Symbol as step-def
 use Rattle.packing.proofs.step.Met as step-thm
 use Rattle.packed.proofs.pack.Key.{name as #key}
@@ -392,8 +392,8 @@ module _ {M : Type 1} (𝓤 : URA M) (H : Heap 𝓤) (A : Atoms 𝓤) (W : Given
           by ! (exits (t .0) (t .1) (t .2) (is-false (t .0 .going) z) (answer-is (t .0) (t .3))))
 
       -- the code up to the loop, with the output open
-      first-pass : Sq W (‵ (outRow out₀) ∷ ‵ entriesOwn ∷ ‵ (flft κ₀ q₀) ∷ ‵ outShuts ∷ Before) (runs C Λ E mir.t-1 (atRet E Post))
-      first-pass =
+      begin-checks : Sq W (‵ (outRow out₀) ∷ ‵ entriesOwn ∷ ‵ (flft κ₀ q₀) ∷ ‵ outShuts ∷ Before) (runs C Λ E mir.t-1 (atRet E Post))
+      begin-checks =
           -- [the output's bytes; the entries; their token; what shuts the output; the locals]
           assigns ! (of-opd ! (load ! (from ! (fld ! refl (stop !))) (look-in ! 30 (sub ! 1 refl (whole !))))) (from ! (stop !)) (init ! 26 refl (tt, record { fits = ge .0 })) $
           assigns ! (addr ! (from ! (fld ! refl (hop ! (look-in ! 28 (sub ! 0 refl (whole !))) (stop !))))) (from ! (stop !)) (init ! 18 refl (tt, tt)) $
@@ -406,13 +406,13 @@ module _ {M : Type 1} (𝓤 : URA M) (H : Heap 𝓤) (A : Atoms 𝓤) (W : Given
           nothing ! $ move ! (1 ∷ 0 ∷ []) $ fjoin ! $
           owned ! usize (Is usize) (uint-makes 𝓤 H A W w64) k _ (refl, ge .0) $ fjoin ! $
           nothing ! $ move ! (3 ∷ 0 ∷ []) $ join ! $
-          -- [ν's token; what `first_pass` is passed; what is lent; the entries; their token; what shuts the output;
+          -- [ν's token; what `begin_checks` is passed; what is lent; the entries; their token; what shuts the output;
           -- the locals]
           calls ! fm start.ended (start.clauses 𝓤 H A mem run) known-start (to-start ν δ out₀) (id⊢ 𝓤 (emp 𝓤))
           (and-then ! (load ! (from ! (stop !)) (look ! 27 refl))
           (and-then ! (load ! (from ! (stop !)) (look ! 17 refl))
           (no-more !)))
-          packVal (struct.tells P.the-type P′.the-laws) (λ s ws. Started k out₀ s (ws .1 .0)) (λ s ws. id⊢ 𝓤 _)
+          packVal (struct.tells P.the-type P′.the-laws) (λ s ws. ChecksBegun k out₀ s (ws .1 .0)) (λ s ws. id⊢ 𝓤 _)
           (λ v s ws told.
           split ! $ lft-end ! tt $ move ! (3 ∷ []) $
           use1 W (‵ (finally u8 δ (ws .1 .0))) (start-last ν δ out₀ (ws .1 .0)) $ move ! (1 ∷ 4 ∷ 0 ∷ []) $
@@ -444,7 +444,7 @@ module _ {M : Type 1} (𝓤 : URA M) (H : Heap 𝓤) (A : Atoms 𝓤) (W : Given
         pass1 ! (init ! 26 refl (tt, (tt, (record { fits = ge .0 }, tt)))) $ pass1 ! (init ! 24 refl (tt, (tt, (record { fits = go .0 }, tt)))) $ pass0 ! $
         move ! (30 ∷ []) $ use1 W (later (‵ (outRow out₀) ⊛ ‵ entriesOwn ⊛ ‵ (flft κ₀ q₀) ⊛ ‵ outShuts)) begins $ await ! tt $
         split ! $ move ! (1 ∷ []) $ split ! $ move ! (1 ∷ []) $ split ! $ move ! (3 ∷ 2 ∷ 0 ∷ 1 ∷ []) $
-        first-pass l₀ l₁ l₂ l₃ l₄ l₅ l₆ l₇ l₈ l₉ l₁₀ l₁₁ l₁₂ l₁₃ l₁₄
+        begin-checks l₀ l₁ l₂ l₃ l₄ l₅ l₆ l₇ l₈ l₉ l₁₀ l₁₁ l₁₂ l₁₃ l₁₄
         )))))))))))))))
 
 module _ {M : Type 1} (𝓤 : URA M) (H : Heap 𝓤) (A : Atoms 𝓤) (W : Given 𝓤 H A) (mem : Memory → SProp 𝓤) (run : Routine → Fun 𝓤) where
@@ -470,6 +470,6 @@ pack-spec 𝓤 H 𝓜 𝓖 𝓡 =
     (tables 𝓤 H 𝓜 𝓡 code.env .C) (tables 𝓤 H 𝓜 𝓡 code.env .Λ) #key code.function (code.unfolded 𝓤 H 𝓜 𝓡)
     (meets 𝓤 H (𝓖 .A) (givenOf 𝓤 H 𝓜 𝓖) (𝓜 .mem) (𝓡 .run) (tablesOf 𝓤 H 𝓜 (tables 𝓤 H 𝓜 𝓡 code.env))
     (cited 𝓤 H (Callee 𝓤 H (𝓖 .A) start.ended (start.clauses 𝓤 H (𝓖 .A) (𝓜 .mem) (𝓡 .run))) 𝓜 𝓡 code.env start-def.name
-    start-def.routine code.calls-packing·first-pass (start-thm.met 𝓤 H 𝓜 𝓖 𝓡))
+    start-def.routine code.calls-packing·begin-checks (start-thm.met 𝓤 H 𝓜 𝓖 𝓡))
     (cited 𝓤 H (Callee 𝓤 H (𝓖 .A) step.ended (step.clauses 𝓤 H (𝓖 .A) (𝓜 .mem) (𝓡 .run))) 𝓜 𝓡 code.env step-def.name
     step-def.routine code.calls-packing·step (step-thm.met 𝓤 H 𝓜 𝓖 𝓡)))

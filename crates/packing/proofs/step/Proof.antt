@@ -1,8 +1,8 @@
--- `packing::step` meets its contract, in either pass.
+-- `packing::step` meets its contract, checking and writing.
 use mathlib.Core.Path.{refl}
 use native.Mathlib.Omega.{arith}
 use borrow.Author.Needs.{needs}
-use Rattle.packing.proofs.Passes.{steps-stopped, steps-checking, steps-writing, step-bad, step-more, step-last}
+use Rattle.packing.proofs.Progress.{steps-stopped, steps-checking, steps-writing, step-bad, step-more, step-last}
 use Rattle.packing.proofs.step.Statement.{statement}
 use Rattle.packing.proofs.step.Tie as tie
 
@@ -66,8 +66,8 @@ returns-3 c = let a = c .before .before .before .before .before .before .before 
       );
     }
 
-second-pass-requires : tie.Need-second-pass-requires
-second-pass-requires c κs = search needs
+begin-writing-requires : tie.Need-begin-writing-requires
+begin-writing-requires c κs = search needs
 
 same-length-2 : tie.Need-same-length-2
 same-length-2 c = search needs
@@ -76,7 +76,7 @@ returns-4 : tie.Need-returns-4
 returns-4 c = let a = c .before .before .before .before .before .before .before .before .before .before in
     let z = c .before .before .before .before .before .before .before .before .if1 .left in
     let f = c .before .before .before .before .before .before .fine-after in
-    let s = c .before .before .second-pass in
+    let s = c .before .before .begin-writing in
     record {
       on = λ es o l p on. step-last es o _ _ _ (f .result) (a .pre .going) z (f .ensures) l p on _ _
           (c .before .before .before .before .before .if2 .left) (omega arith) (s .ensures);
@@ -97,6 +97,6 @@ step-spec =
     add-going-on
     going-on-requires
     returns-3
-    second-pass-requires
+    begin-writing-requires
     same-length-2
     returns-4)

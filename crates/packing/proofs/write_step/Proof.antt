@@ -1,7 +1,7 @@
 -- `packing::write_step` meets its contract.
 use native.Mathlib.Omega.{arith}
 use borrow.Author.Needs.{needs}
-use Rattle.packing.proofs.Passes.{steps-stopped, steps-writing, wrote-more, wrote-last}
+use Rattle.packing.proofs.Progress.{steps-stopped, steps-writing, wrote-more, wrote-last}
 use Rattle.packing.proofs.write_step.Statement.{statement}
 use Rattle.packing.proofs.write_step.Tie as tie
 

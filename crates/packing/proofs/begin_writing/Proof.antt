@@ -1,4 +1,4 @@
--- `packing::second_pass` meets its contract.
+-- `packing::begin_writing` meets its contract.
 use mathlib.Core.Path.{_≡_, refl, sym, _∙_}
 use Prim.Native.Nat.{_≤_, _+_, _*_}
 use native.Mathlib.Omega.{arith}
@@ -6,9 +6,9 @@ use denote.Ref.{now}
 use lib.ListN.{length}
 use borrow.Author.Tests.{ltb-false}
 use borrow.Author.Needs.{needs}
-use Rattle.packing.proofs.Passes.{steps-stopped, steps-writing, begins-short, begins-empty, begins-writing}
-use Rattle.packing.proofs.second_pass.Statement.{statement}
-use Rattle.packing.proofs.second_pass.Tie as tie
+use Rattle.packing.proofs.Progress.{steps-stopped, steps-writing, begins-short, begins-empty, begins-writing}
+use Rattle.packing.proofs.begin_writing.Statement.{statement}
+use Rattle.packing.proofs.begin_writing.Tie as tie
 
 too-short-requires : tie.Need-too-short-requires
 too-short-requires c κs = search needs
@@ -47,8 +47,8 @@ returns-3 c = let h = sym (c .before .before .before .too-short .ensures) ∙ c 
       few = omega (arith, steps-writing (c .before .before .before .before .before .args .k) (c .going-on .result) (c .going-on .ensures .0) (c .going-on .ensures .1) (c .going-on .ensures .2));
     }
 
-pub second-pass-spec : {M : Type 1} → statement M
-second-pass-spec =
+pub begin-writing-spec : {M : Type 1} → statement M
+begin-writing-spec =
     tie.close
     (tie.spec
     too-short-requires

@@ -1,4 +1,4 @@
--- The two passes of packing, step by step: what holds between two steps (`On`) holds after each.
+-- Checking and writing, step by step: what holds between two steps (`On`) holds after each.
 use Prim.Native.Nat.{ℕ, _+_, _-_, _*_, _≤_, _<_}
 use mathlib.Core.Path.{_≡_, refl, sym, ap, _∙_, subst}
 use mathlib.Core.List.{List, [], _∷_, _++_}
@@ -22,7 +22,7 @@ use Rattle.model.specs.declared.PackAnswer.the-variants.{Refused}
 use Rattle.model.specs.declared.Refusal.the-variants.{BadEntry, OutputTooShort}
 use Rattle.entries.specs.Verdict.{badUnless}
 use Rattle.packing.specs.declared.Packing.{Packing}
-use Rattle.packing.specs.Packing.{On, Finished, Passed, Started, Ready, Stepped, steps, stepsOf}
+use Rattle.packing.specs.Packing.{On, Finished, WritingBegun, ChecksBegun, Steppable, Stepped, steps, stepsOf}
 use Rattle.model.proofs.Grounds.{orElse-both, orElse-first, orElse-next, reply-refused, reply-answered, orElse-zero, orElse-assoc}
 use Rattle.entries.proofs.Grounds.{no-lt}
 use Rattle.entries.proofs.Checks.{bad-some}
@@ -140,7 +140,7 @@ start-written : (es : List Entry) (o : List ℕ) → o ≡ entriesBytes (take 0 
 unfolding entriesBytes
 start-written es o = refl
 
--- the second pass begins
+-- writing begins
 module _ (es : List Entry) (o : List ℕ) (k : ℕ) (r : Packing) (l : length es ≡ k) (z : entriesCode es ≡ 0) where
   pub begins-short : ltb (length o) (distanceOf k) ≡ true → r .going ≡ false → r .answer ≡ Refused OutputTooShort
       → On es o r o
@@ -158,7 +158,7 @@ module _ (es : List Entry) (o : List ℕ) (k : ℕ) (r : Packing) (l : length es
       on-writing es o r o g w (omega arith) (code-none es k (length o) l z (ltb-false _ _ h))
       (start-written es o ∙ ap (λ (i : ℕ). entriesBytes (take i es) ++ drop (entryBytes * i) o) (sym a))
 
--- the first pass begins
+-- checking begins
 pub begins-checking : (es : List Entry) (o : List ℕ) (k : ℕ) (r : Packing) → length es ≡ k → (k ≡ 0 → ⊥)
     → r .going ≡ true
     → r .writing ≡ false → r .at ≡ 0 → On es o r o
@@ -207,7 +207,7 @@ all-checked : (es : List Entry) (e : Entry) (n : ℕ) → n ≡ length es → re
 unfolding restCode
 all-checked es e n p = ap (λ (l : List Entry). restCode e l) (ap (λ (m : ℕ). drop m es) p ∙ drop-length es)
 
--- a step of the first pass
+-- a step of checking
 module _ (es : List Entry) (o : List ℕ) (s : Packing) (out : List ℕ) (k : ℕ) {e : Entry} (t : Bool)
     (g : s .going ≡ true) (w : s .writing ≡ false)
     (b : badUnless t ≡ orElse (entryCode e) (ifEq (s .at) 0 0 (laterCode (s .before) e)))
@@ -236,10 +236,10 @@ module _ (es : List Entry) (o : List ℕ) (s : Packing) (out : List ℕ) (k : �
   all-fine : not t ≡ false → k ≤ s .at + 1 → entriesCode es ≡ 0
   all-fine f h = went-on f ∙ all-checked es e (s .at + 1) (omega (arith, on .next g))
 
-  pub step-last : (r : Packing) (out′ : List ℕ) → not t ≡ false → k ≤ s .at + 1 → Passed k out r out′ → On es o r out′
+  pub step-last : (r : Packing) (out′ : List ℕ) → not t ≡ false → k ≤ s .at + 1 → WritingBegun k out r out′ → On es o r out′
   step-last r out′ f h y = subst (λ (x : List ℕ). On es x r out′) (on .same g w) (y .on es l (all-fine f h))
 
--- a step of the second pass
+-- a step of writing
 module _ (es : List Entry) (o out : List ℕ) (k i : ℕ) {e : Entry} {out′ : List ℕ} (h : i < k)
     (f : out′ ≡ sets out (entryBytes * i) (bytesOf e))
     (l : length es ≡ k) (p : e ≡ getD es i (entry 0 0 0)) (z : packCode es (length o) ≡ 0)
@@ -265,12 +265,12 @@ pub record Stands (es : List Entry) (o : List ℕ) (s : Packing) (out : List ℕ
   pub long : length out ≡ length o
 
 module _ (es : List Entry) (o : List ℕ) where
-  pub stands-first : (r : Packing) (out : List ℕ) → Started (length es) o r out → length out ≡ length o
+  pub stands-first : (r : Packing) (out : List ℕ) → ChecksBegun (length es) o r out → length out ≡ length o
       → Stands es o r out
   stands-first r out h l = record { on = h .on es refl; long = l }
 
   module _ (s : Packing) (out : List ℕ) (h : Stands es o s out) where
-    pub stands-ready : s .going ≡ true → Ready (length es) s out
+    pub stands-ready : s .going ≡ true → Steppable (length es) s out
     stands-ready g =
         record {
           going = g;
