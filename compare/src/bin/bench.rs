@@ -85,7 +85,8 @@ fn flat(name: &'static str, rows: usize, columns: usize, ranges: &Ranges) -> Sha
     Shape { name, file: draft.file(), holds: (0b11, last), wide: (0xFF & !(1 << last), last), key }
 }
 
-/// One table in which only the last two rows break a dependency: of column 0, which tells all other rows apart, and column 15.
+/// One table in which only the last two rows break a dependency: of column 0, which tells all other rows apart, and
+/// column 15.
 fn last_two() -> Vec<u8> {
     let mut random = Random::new(2);
     let mut row = |k: usize| {

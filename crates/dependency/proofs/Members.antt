@@ -29,34 +29,34 @@ use Rattle.partition.specs.Partition.{Given}
 use Rattle.search.specs.Strays.{FirstBreaking}
 use Rattle.search.specs.declared.Found.{Found}
 use Rattle.search.proofs.Pairs.{keyed-breaking}
-use Rattle.dependency.specs.Posed.{Posed, membersOf, rightBit}
+use Rattle.dependency.specs.Posed.{Posed, membersAsked, rightBit}
 
 -- the members
 module _ (x a : ℕ) where
-  pub members-row : a ≡ row → x ≡ membersOf x a
-  unfolding membersOf
+  pub members-row : a ≡ row → x ≡ membersAsked x a
+  unfolding membersAsked
   members-row e = sym (ifEq-yes (bitOr x (2 ^ a)) e)
 
-  pub members-column : (a ≡ row → ⊥) → bitOr x (2 ^ a) ≡ membersOf x a
-  unfolding membersOf
+  pub members-column : (a ≡ row → ⊥) → bitOr x (2 ^ a) ≡ membersAsked x a
+  unfolding membersAsked
   members-column n = sym (ifEq-no x n)
 
-  members-left : (k : ℕ) → bit x k ≡ 1 → bit (membersOf x a) k ≡ 1
+  members-left : (k : ℕ) → bit x k ≡ 1 → bit (membersAsked x a) k ≡ 1
   members-left k i = at (ℕ-discrete a row) (ℕ-discrete k a)
     where
-      at : Dec (a ≡ row) → Dec (k ≡ a) → bit (membersOf x a) k ≡ 1
+      at : Dec (a ≡ row) → Dec (k ≡ a) → bit (membersAsked x a) k ≡ 1
       at (yes e) d = ap (λ (m : ℕ). bit m k) (sym (members-row e)) ∙ i
       at (no n) (yes e) =
           ap (λ (m : ℕ). bit m k) (sym (members-column n)) ∙ ap (bit (bitOr x (2 ^ a))) e ∙ bit-with-same x a
       at (no n) (no d) = ap (λ (m : ℕ). bit m k) (sym (members-column n)) ∙ bit-with-other x k a d ∙ i
 
-  pub left-within : (v : View) → Within v x (membersOf x a)
+  pub left-within : (v : View) → Within v x (membersAsked x a)
   left-within v k l i = members-left k i
 
-  pub right-keyed : (n : ℕ) → ((a ≡ row → ⊥) → a < n) → KeyedRight n (membersOf x a) a
+  pub right-keyed : (n : ℕ) → ((a ≡ row → ⊥) → a < n) → KeyedRight n (membersAsked x a) a
   right-keyed n h = at (ℕ-discrete a row)
     where
-      at : Dec (a ≡ row) → KeyedRight n (membersOf x a) a
+      at : Dec (a ≡ row) → KeyedRight n (membersAsked x a) a
       at (yes e) = inl e
       at (no d) = inr (h d, ap (λ (m : ℕ). bit m a) (sym (members-column d)) ∙ bit-with-same x a)
 
@@ -112,7 +112,7 @@ module _ (n a : ℕ) where
                   let z : _≡_ {A = ℕ} 0 1 = cc in
                   omega arith
 
-      pub given-holds : {v : View} → Keyed v (membersOf x a) n end keys → not (eqb r 0) ≡ holds v x a
+      pub given-holds : {v : View} → Keyed v (membersAsked x a) n end keys → not (eqb r 0) ≡ holds v x a
       given-holds {v} keyed =
           told (holds (keyView keys n end) x a) refl
           ∙ sym (keyed-holds keyed x a (left-within x a (keyView keys n end)) (right-keyed x a n h))
@@ -131,24 +131,24 @@ module _ {b : List ℕ} {t x a : ℕ} (posed : Posed b t x a) where
   pub posed-bound : (a ≡ row → ⊥) → a < columnBound
   posed-bound d = omega (arith, posed .right d, accepted-visible b (posed .accepted) t (posed .target))
 
-  pub posed-keyed : {m : ℕ} {keys : List ℕ} → m ≡ membersOf x a → LaidFor (view b t) m keys
-      → Keyed (view b t) (membersOf x a) (visible b t) (rows b t) keys
+  pub posed-keyed : {m : ℕ} {keys : List ℕ} → m ≡ membersAsked x a → LaidFor (view b t) m keys
+      → Keyed (view b t) (membersAsked x a) (visible b t) (rows b t) keys
   posed-keyed {m} {keys} e laid =
-      laid-catalogue b t (membersOf x a) keys (posed .accepted) (posed .target) (subst (λ (s : ℕ). LaidFor (view b t) s keys) e laid)
+      laid-catalogue b t (membersAsked x a) keys (posed .accepted) (posed .target) (subst (λ (s : ℕ). LaidFor (view b t) s keys) e laid)
 
   keyed-by : {n end : ℕ} {keys : List ℕ} → n ≡ visible b t → end ≡ rows b t
-      → Keyed (view b t) (membersOf x a) (visible b t) (rows b t) keys → Keyed (view b t) (membersOf x a) n end keys
+      → Keyed (view b t) (membersAsked x a) (visible b t) (rows b t) keys → Keyed (view b t) (membersAsked x a) n end keys
   keyed-by {n} {end} {keys} e f h =
-      subst (λ (k : ℕ). Keyed (view b t) (membersOf x a) k end keys) (sym e)
-      (subst (λ (k : ℕ). Keyed (view b t) (membersOf x a) (visible b t) k keys) (sym f) h)
+      subst (λ (k : ℕ). Keyed (view b t) (membersAsked x a) k end keys) (sym e)
+      (subst (λ (k : ℕ). Keyed (view b t) (membersAsked x a) (visible b t) k keys) (sym f) h)
 
   pub posed-holds : {n end w : ℕ} {keys : List ℕ} (r : ℕ) → n ≡ visible b t → end ≡ rows b t → w ≡ 2 ^ rightBit n a
-      → Keyed (view b t) (membersOf x a) (visible b t) (rows b t) keys → Given keys n end x w r → not (eqb r 0) ≡ holds (view b t) x a
+      → Keyed (view b t) (membersAsked x a) (visible b t) (rows b t) keys → Given keys n end x w r → not (eqb r 0) ≡ holds (view b t) x a
   posed-holds {n} {end} {w} {keys} r e f g keyed given =
       given-holds n a (posed-right e) keys end x r (subst (λ (m : ℕ). Given keys n end x m r) g given) (keyed-by e f keyed)
 
   pub posed-breaking : {n end : ℕ} {keys : List ℕ} (found : Found) → n ≡ visible b t → end ≡ rows b t
-      → Keyed (view b t) (membersOf x a) (visible b t) (rows b t) keys → FirstBreaking (keyView keys n end) x a found
+      → Keyed (view b t) (membersAsked x a) (visible b t) (rows b t) keys → FirstBreaking (keyView keys n end) x a found
       → FirstBreaking (view b t) x a found
   posed-breaking {n} {end} {keys} found e f keyed first =
       keyed-breaking (keyed-by e f keyed) x a (left-within x a (keyView keys n end)) (right-keyed x a n (posed-right e)) found first

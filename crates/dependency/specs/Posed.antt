@@ -16,8 +16,8 @@ pub record Posed (cat : List ℕ) (t x a : ℕ) : Type 0 where
   pub right : (a ≡ row → ⊥) → a < visible cat t
 
 -- the members that it looks at: those of the left side, and the right side where it is a column
-unfoldable pub membersOf : ℕ → ℕ → ℕ
-membersOf x a = ifEq a row x (bitOr x (2 ^ a))
+unfoldable pub membersAsked : ℕ → ℕ → ℕ
+membersAsked x a = ifEq a row x (bitOr x (2 ^ a))
 
 -- the bit that stands for the right side, of n members: its own, or the one above them all for the row
 unfoldable pub rightBit : ℕ → ℕ → ℕ

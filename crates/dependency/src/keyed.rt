@@ -9,7 +9,7 @@ ghost use Rattle.model.specs.Target.{view};
 ghost use Rattle.model.specs.View.{holds as holdsIn};
 ghost use Rattle.leaders.specs.Keys.{Keyed, keysSize};
 ghost use Rattle.search.specs.Strays.{FirstBreaking};
-ghost use Rattle.dependency.specs.Posed.{Posed, membersOf, rightBit};
+ghost use Rattle.dependency.specs.Posed.{Posed, membersAsked, rightBit};
 use bits::power;
 use keys::lay;
 use layout::rows;
@@ -23,7 +23,7 @@ use search::first_pair;
 // The members that a question looks at: those of the left side, and the right side where it is a column.
 fn members_of(left: u32, right: u32) -> u32
     requires { ⌜ ((right ≡ row → ⊥) → right < columnBound) ⌝ }
-    ensures { λ r. ⌜ r ≡ membersOf left right ⌝ }
+    ensures { λ r. ⌜ r ≡ membersAsked left right ⌝ }
 {
     if right == ROW {
         return left;
@@ -47,7 +47,7 @@ fn lay_question(cat: &[u8], target: u32, left: u32, right: u32, keys: &mut [u16;
     requires { ⌜ Posed (now cat) target left right ⌝ }
     requires { ⌜ length (now keys) ≡ keysSize ⌝ }
     ensures { λ _.
-        ⌜ Keyed (view (now (cat .entry)) target) (membersOf left right) (visibleOf (now (cat .entry)) target)
+        ⌜ Keyed (view (now (cat .entry)) target) (membersAsked left right) (visibleOf (now (cat .entry)) target)
         (rowsOf (now (cat .entry)) target) (now (keys .exit)) ⌝ }
 {
     lay(

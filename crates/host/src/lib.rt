@@ -11,7 +11,7 @@ ghost use Rattle.model.specs.Question.{questionCode, askMeaning, PairMeaning};
 ghost use Rattle.model.specs.List.{ListMeaning};
 ghost use Rattle.model.specs.Packing.{packMeaning, outputAfter};
 ghost use Rattle.model.specs.Reading.{openMeaning, readMeaning, runRead};
-ghost use Rattle.listing.specs.Seen.{seen};
+ghost use Rattle.model.specs.Calls.{seen};
 ghost use Rattle.numbers.specs.Number.{numberOf, valueOr, statusOf, pairSeen, listSeen};
 use model::AskAnswer;
 use model::CheckAnswer;

@@ -15,7 +15,7 @@ use Rattle.model.specs.declared.Entry.{Entry}
 use Rattle.model.specs.declared.ListAnswer.{ListAnswer}
 use Rattle.model.proofs.Calls.{le-or-lt}
 use Rattle.model.specs.List.{ListMeaning}
-use Rattle.listing.specs.Seen.{seen}
+use Rattle.model.specs.Calls.{seen}
 use Rattle.listing.specs.Filled.{runBound, cap, FilledBy}
 
 abbrev pub zeros : Entry

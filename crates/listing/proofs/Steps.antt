@@ -17,7 +17,7 @@ use Rattle.model.specs.Listing.{Listing, cells}
 use Rattle.model.specs.List.{codeAfter, CallMeaning}
 use Rattle.walk.specs.Meaning.{Good}
 use Rattle.steps.specs.Steps.{due, toPut, replyTo, WordsBegun, Begins, Went, whole, values}
-use Rattle.listing.specs.Seen.{seen}
+use Rattle.model.specs.Calls.{seen}
 use Rattle.steps.proofs.Stepping.{kept-after}
 use Rattle.listing.proofs.Lists.{set-next}
 

@@ -10,7 +10,7 @@ use Rattle.model.specs.Entry.{entry}
 use Rattle.model.specs.List.{ListMeaning}
 use Rattle.model.specs.declared.Entry.{Entry}
 use Rattle.model.specs.declared.ListAnswer.{ListAnswer}
-use Rattle.listing.specs.Seen.{seen}
+use Rattle.model.specs.Calls.{seen}
 
 abbrev pub runBound : ℕ
 runBound = 65536

@@ -3,7 +3,7 @@
 ghost use mathlib.Core.Path.{_≡_};
 ghost use Rattle.model.specs.Reply.{listReply};
 ghost use Rattle.model.specs.List.{ListMeaning};
-ghost use Rattle.listing.specs.Seen.{seen};
+ghost use Rattle.model.specs.Calls.{seen};
 ghost use Rattle.listing.specs.Filled.{cap, FilledBy};
 use model::Entry;
 use model::ListAnswer;

@@ -59,6 +59,18 @@ pub record Seen (A : Type 0) : Type 0 where
   pub runThen : List A
   pub workThen : List ℕ
 
+abbrev pub seen : {A : Type 0} → ℕ → ℕ → List A → List ℕ → Reply → List A → List ℕ → Seen A
+seen place budget run work reply runThen workThen =
+    record {
+      place = place;
+      budget = budget;
+      run = run;
+      work = work;
+      reply = reply;
+      runThen = runThen;
+      workThen = workThen;
+    }
+
 -- the call did what it must, where `code` is the first ground against it
 pub record Obeys {A : Type 0} (cells : List (List A)) (code : ℕ) (s : Seen A) : Type 0 where
   pub reply : s .reply

@@ -9,7 +9,7 @@ use Rattle.model.specs.Reply.{Reply, refused, answered, wordsAfter}
 use Rattle.model.specs.Check.{checkCode}
 use Rattle.model.specs.Question.{askMeaning, PairMeaning}
 use Rattle.model.specs.Entry.{entry}
-use Rattle.model.specs.Calls.{Seen, workAfter}
+use Rattle.model.specs.Calls.{Seen, workAfter, seen}
 use Rattle.model.specs.List.{ListMeaning}
 use Rattle.model.specs.Packing.{packed, packMeaning, outputAfter}
 use Rattle.model.specs.Reading.{openMeaning, entriesRead, frontRead, readFrom, readMeaning, runRead, readAt}
@@ -43,19 +43,6 @@ pub record QuestionReplies : Type 0 where
 -- a record that no call writes
 abbrev pub blank : Entry
 blank = entry 9 9 9
-
--- a listing call: place, budget, run and work words; its reply, and the run and the work words afterwards
-abbrev pub seen : ℕ → ℕ → List Entry → List ℕ → Reply → List Entry → List ℕ → Seen Entry
-seen place budget run work reply runThen workThen =
-    record {
-      place = place;
-      budget = budget;
-      run = run;
-      work = work;
-      reply = reply;
-      runThen = runThen;
-      workThen = workThen;
-    }
 
 -- so it is with whatever words, at least 16,384; afterwards they are all 0, or as they were
 abbrev pub ListZeroes : List ℕ → ℕ → ℕ → List Entry → Reply → List Entry → Type 0

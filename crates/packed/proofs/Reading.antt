@@ -14,7 +14,7 @@ use Rattle.model.specs.declared.OpenAnswer.{OpenAnswer}
 use Rattle.model.specs.declared.OpenAnswer.the-variants.{Opened, Refused}
 use Rattle.entries.proofs.Entries.{read-past}
 use Rattle.unpacking.specs.Reading.{entriesBy, frontBy, afterIn}
-use Rattle.packed.specs.Reading.{Begun, nextOf, after, Reads}
+use Rattle.packed.specs.Reading.{Begun, entryNext, after, Reads}
 use Rattle.packed.specs.declared.Reader.{Reader}
 use Rattle.packed.proofs.Opening.{answered-by, refused-by}
 
@@ -73,7 +73,7 @@ module _ (f : RefT (List ℕ)) (r : Reader) (h : Begun f r) where
   position zero = h .first ∙ omega arith
   position (suc n) = ap₂ afterIn (held n) (position n) ∙ after-min (entriesRead (now f)) n
 
-  answers : (n : ℕ) → nextOf (after n r) ≡ readAt (entriesRead (now f)) n
+  answers : (n : ℕ) → entryNext (after n r) ≡ readAt (entriesRead (now f)) n
   answers n = ap₂ readAt (held n) (position n) ∙ read-min (entriesRead (now f)) n
 
   -- every file is read so by the reader that begins on it

@@ -19,8 +19,8 @@ pub record Begun (f : RefT (List ℕ)) (r : Reader) : Type 0 where
   pub reply : openReply (r .answer) ≡ openMeaning (now f)
 
 -- what a reader answers: the entry that comes next or 'end', and the part in front
-abbrev pub nextOf : Reader → ReadAnswer
-nextOf r = readAt (entriesBy (r .answer) (now (r .list))) (r .at)
+abbrev pub entryNext : Reader → ReadAnswer
+entryNext r = readAt (entriesBy (r .answer) (now (r .list))) (r .at)
 
 abbrev pub frontHeld : Reader → List ℕ
 frontHeld r = frontBy (r .answer) (now (r .list))
@@ -36,7 +36,7 @@ after (suc n) r = advanced (after n r)
 -- a reading from r is that of the file f, at every step: its answers are the entries that may be read, in order, and
 -- then 'end'
 pub record Reads (f : RefT (List ℕ)) (r : Reader) : Type 0 where
-  pub entries : (n : ℕ) → nextOf (after n r) ≡ readAt (entriesRead (now f)) n
-  pub ends : (n : ℕ) → length (entriesRead (now f)) ≤ n → nextOf (after n r) ≡ End
+  pub entries : (n : ℕ) → entryNext (after n r) ≡ readAt (entriesRead (now f)) n
+  pub ends : (n : ℕ) → length (entriesRead (now f)) ≤ n → entryNext (after n r) ≡ End
   pub opened : (n : ℕ) → openReply (after n r .answer) ≡ openMeaning (now f)
   pub front : (n : ℕ) → frontHeld (after n r) ≡ frontRead (now f)

@@ -12,7 +12,7 @@ ghost use lib.ListN.{length};
 ghost use Rattle.model.specs.Reply.{openReply, packReply};
 ghost use Rattle.model.specs.Packing.{packMeaning, outputAfter};
 ghost use Rattle.model.specs.Reading.{frontRead, openMeaning};
-ghost use Rattle.packed.specs.Reading.{Begun, nextOf, frontHeld, advanced};
+ghost use Rattle.packed.specs.Reading.{Begun, entryNext, frontHeld, advanced};
 use entries::entries_ok;
 use model::ENTRY_BYTES;
 use model::Entry;
@@ -90,7 +90,7 @@ pub fn opened<'a>(r: Reader<'a>) -> OpenAnswer
 
 // The entry that comes next, or 'end'; always 'end' where the file was refused.
 pub fn next<'a>(r: Reader<'a>) -> ReadAnswer
-    ensures { λ a. ⌜ a ≡ nextOf (r .entry) ⌝ }
+    ensures { λ a. ⌜ a ≡ entryNext (r .entry) ⌝ }
 {
     entry_at(r.list, r.at, r.answer)
 }

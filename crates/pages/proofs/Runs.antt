@@ -29,7 +29,7 @@ use Rattle.model.proofs.Listing.{cells-length}
 use Rattle.model.proofs.Complete.{after-none}
 use Rattle.model.proofs.Rights.{ordinary-bounded}
 use Rattle.model.proofs.Short.{cell-short}
-use Rattle.listing.specs.Seen.{seen}
+use Rattle.model.specs.Calls.{seen}
 use Rattle.listing.specs.Filled.{runBound, cap, FilledBy}
 use Rattle.pages.specs.Pages.{Listable}
 

@@ -50,7 +50,7 @@ use Rattle.model.specs.declared.ListAnswer.{ListAnswer}
 use Rattle.model.proofs.Entry as R
 use Rattle.model.proofs.ListAnswer as L
 use Rattle.model.proofs.ListAnswer.Laws as L′
-use Rattle.listing.specs.Seen.{seen}
+use Rattle.model.specs.Calls.{seen}
 use Rattle.lent.proofs.Walk.{full, _◂_, leaves, met}
 use Rattle.lent.proofs.Lent as lent
 use Rattle.lent.proofs.Called.{Callee, lastOwn, calls}

@@ -71,7 +71,7 @@ use Rattle.model.proofs.ListAnswer as L
 use Rattle.model.proofs.ListAnswer.Laws as L′
 use Rattle.listing.specs.declared.Filled.{Filled}
 use Rattle.model.specs.List.{ListMeaning}
-use Rattle.listing.specs.Seen.{seen}
+use Rattle.model.specs.Calls.{seen}
 use Rattle.listing.specs.Filled.{runBound, cap}
 use Rattle.listing.proofs.Filled as F
 use Rattle.listing.proofs.Filled.Laws as F′

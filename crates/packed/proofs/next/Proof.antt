@@ -33,7 +33,7 @@ use denote.Triple.Clauses.{ensured}
 use Rattle.model.specs.declared.ReadAnswer.{ReadAnswer}
 use Rattle.model.proofs.ReadAnswer as S
 use Rattle.model.proofs.ReadAnswer.Laws as S′
-use Rattle.packed.specs.Reading.{nextOf}
+use Rattle.packed.specs.Reading.{entryNext}
 use Rattle.packed.specs.declared.Reader.{Reader}
 use Rattle.lent.proofs.Walk.{full, _◂_, leaves, met}
 use Rattle.lent.proofs.Called.{Callee, calls}
@@ -58,7 +58,7 @@ module _ {M : Type 1} (𝓤 : URA M) (H : Heap 𝓤) (A : Atoms 𝓤) (W : Given
   mach = readerVal κ d
 
   abbrev found : ReadAnswer
-  found = nextOf d
+  found = entryNext d
 
   abbrev bound : walkOf 𝓤 H A next.ended stayed (next.clauses 𝓤 H A mem run) .Ghost
   bound = (((κ, tt), (q, tt), tt, (d, tt), (mach ∷ [], tt)), tt)

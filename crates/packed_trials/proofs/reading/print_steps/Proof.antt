@@ -56,7 +56,7 @@ use Rattle.model.proofs.OpenAnswer.Laws as O′
 use Rattle.model.proofs.ReadAnswer as S
 use Rattle.model.proofs.ReadAnswer.Laws as S′
 use Rattle.packed.specs.declared.Reader.{Reader}
-use Rattle.packed.specs.Reading.{Begun, nextOf, frontHeld, advanced}
+use Rattle.packed.specs.Reading.{Begun, entryNext, frontHeld, advanced}
 use Rattle.packed.proofs.Reader as T
 use Rattle.packed.proofs.Reader.Laws as T′
 use Rattle.packed.proofs.Held.{readerRow, reader-tells, answerVal, readerType, readerVal, readerOwn}
@@ -280,7 +280,7 @@ module _ {M : Type 1} (𝓤 : URA M) (H : Heap 𝓤) (A : Atoms 𝓤) (W : Given
           move ! (2 ∷ 0 ∷ []) $
           calls ! fm next.ended (next.clauses 𝓤 H A mem routine) known-next (to-read d) (id⊢ 𝓤 (emp 𝓤))
           (and-then ! (load ! (from ! (stop !)) (look ! 5 refl)) (no-more !))
-          nextVal (enum.tells S.the-type S′.the-laws) (λ a _. a ≡ nextOf d) (λ a _. id⊢ 𝓤 _)
+          nextVal (enum.tells S.the-type S′.the-laws) (λ a _. a ≡ entryNext d) (λ a _. id⊢ 𝓤 _)
           (λ v a _ hands. move ! (2 ∷ []) $ drop ! $
           land ! (from ! (stop !)) (init ! 8 refl (enum.lawful S.the-type S′.the-laws 𝓤 H A W tt .typed a _
           (hands .typed) .0)) $
