@@ -1,4 +1,5 @@
-// Not for callers: powers of two for the crates that set and test bits of a word, each of which shows that its bit is in the word.
+// Not for callers: powers of two for the crates that set and test bits of a word, each of which shows that its bit is
+// in the word.
 // Relies on nothing. Called by `columns`, by `layout`, and by the crates of the engine.
 ghost use Prim.Native.Nat.{_<_, _^_};
 ghost use mathlib.Core.Path.{_≡_};

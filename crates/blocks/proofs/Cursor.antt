@@ -20,7 +20,8 @@ use Rattle.blocks.specs.Cache.{pairsAt, leftAt, Roomy, Cached, Stocked, 
 pub roomy-begun : (n : ℕ) (ws : List ℕ) → pairsAt n + 2 ≤ length ws → word ws (seedWords n + 1) ≡ 0 → Roomy n ws
 roomy-begun n ws h e = record { one = h; count = omega arith }
 
-pub ready-begun : (v : View) (n own : ℕ) (ws : List ℕ) → Sown v n ws → word ws (seedWords n + 1) ≡ 0 → Stocked v n own ws
+pub ready-begun : (v : View) (n own : ℕ) (ws : List ℕ) → Sown v n ws → word ws (seedWords n + 1) ≡ 0
+    → Stocked v n own ws
 ready-begun v n own ws s e = record { sown = s; cached = λ j l. absurd (omega arith) }
 
 -- the cursor's pair is inside, and its left side is compared
@@ -85,7 +86,8 @@ module _ (n own x m : ℕ) (ws : List ℕ) (h : 5 ≤ n) (is : m ≡ seedWords n
         ready = λ v r.
             record {
               sown = sown-kept v n ws moved h (λ i l. same i (λ e. omega arith)) (r .sown);
-              cached = cached-kept v own (pairsAt n) (word ws (seedWords n + 1)) (word moved (seedWords n + 1)) ws moved q
+              cached =
+                  cached-kept v own (pairsAt n) (word ws (seedWords n + 1)) (word moved (seedWords n + 1)) ws moved q
                   (λ i l. same i (λ e. omega arith)) (r .cached);
             };
       }

@@ -1,6 +1,7 @@
-// Not for callers: blocks of left sides, for calls that are lent less than one word for each left side. Behind the seeds the
-// words hold the next left sides in listing order, each with its minimal rights, and a cursor to the one that is asked for next. Promised are the rights
-// of each left side that stands there: other left sides, or a cursor that misses, would only cost time.
+// Not for callers: blocks of left sides, for calls that are lent less than one word for each left side. Behind the
+// seeds the words hold the next left sides in listing order, each with its minimal rights, and a cursor to the one
+// that is asked for next. Promised are the rights of each left side that stands there: other left sides, or a cursor
+// that misses, would only cost time.
 // Relies on the definitions of `model` and `columns`, and on `planes` for the plane of each right. Called by `rights`.
 ghost use Prim.Native.Nat.{_+_, _/_, _^_, _≤_, _<_};
 ghost use mathlib.Core.Path.{_≡_};

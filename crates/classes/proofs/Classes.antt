@@ -18,14 +18,16 @@ use Rattle.model.proofs.Truth.{eqb-is, same-test}
 use Rattle.table.proofs.Bits.{bit-none, bit-with-other, with-below}
 use Rattle.filled.proofs.Below.{below-more}
 use Rattle.leaders.specs.Keys.{keyAt}
-use Rattle.classes.specs.Classes.{byteBound, byteStride, bytesSize, numberAt, Numbering, OnlyMember, SameClasses, MemberNumbered, Numbered}
+use Rattle.classes.specs.Classes.{byteBound, byteStride, bytesSize, numberAt, Numbering, OnlyMember, SameClasses}
+use Rattle.classes.specs.Classes.{MemberNumbered, Numbered}
 
 -- a byte of member k is stored
 pub only-same : (k : ℕ) (bytes : List ℕ) → OnlyMember k bytes bytes
 only-same k bytes = record { same-length = refl; others = λ j q d l. refl }
 
 pub only-then : {k : ℕ} {a b c : List ℕ} → OnlyMember k a b → OnlyMember k b c → OnlyMember k a c
-only-then h g = record { same-length = g .same-length ∙ h .same-length; others = λ j q d l. g .others j q d l ∙ h .others j q d l }
+only-then h g =
+    record { same-length = g .same-length ∙ h .same-length; others = λ j q d l. g .others j q d l ∙ h .others j q d l }
 
 pub only-set : (k q x : ℕ) (bytes : List ℕ) → q < rowBound → OnlyMember k bytes (set bytes (k * byteStride + q) x)
 only-set k q x bytes h = record {
@@ -53,17 +55,20 @@ numbering-more {keys} {k} {q} {count} {bytes} x r hk hq back fits grows few righ
     there i d = getD-set-other bytes (k * byteStride + q) (k * byteStride + i) x 0 (λ e. d (omega arith))
 
     at-same : (i j : ℕ) → i < q + 1 → j < q + 1 → Dec (i ≡ q) → Dec (j ≡ q)
-        → (numberAt (set bytes (k * byteStride + q) x) k i ≡ numberAt (set bytes (k * byteStride + q) x) k j) ↔ (keyAt keys k i ≡ keyAt keys k j)
+        → (numberAt (set bytes (k * byteStride + q) x) k i ≡ numberAt (set bytes (k * byteStride + q) x) k j)
+        ↔ (keyAt keys k i ≡ keyAt keys k j)
     at-same i j l m (yes e) (yes f) =
         (λ u. ap (keyAt keys k) (e ∙ sym f), λ u. ap (numberAt (set bytes (k * byteStride + q) x) k) (e ∙ sym f))
     at-same i j l m (yes e) (no f) =
-        let now : numberAt (set bytes (k * byteStride + q) x) k i ≡ x = ap (numberAt (set bytes (k * byteStride + q) x) k) e ∙ here in
+        let now : numberAt (set bytes (k * byteStride + q) x) k i ≡ x =
+        ap (numberAt (set bytes (k * byteStride + q) x) k) e ∙ here in
         let old = right j (omega arith) in (
           λ u. ap (keyAt keys k) e ∙ sym (old .0 (sym (there j f) ∙ sym u ∙ now)),
           λ u. now ∙ sym (old .1 (sym u ∙ ap (keyAt keys k) e)) ∙ sym (there j f),
         )
     at-same i j l m (no e) (yes f) =
-        let now : numberAt (set bytes (k * byteStride + q) x) k j ≡ x = ap (numberAt (set bytes (k * byteStride + q) x) k) f ∙ here in
+        let now : numberAt (set bytes (k * byteStride + q) x) k j ≡ x =
+        ap (numberAt (set bytes (k * byteStride + q) x) k) f ∙ here in
         let old = right i (omega arith) in (
           λ u. old .0 (sym (there i e) ∙ u ∙ now) ∙ sym (ap (keyAt keys k) f),
           λ u. there i e ∙ old .1 (u ∙ ap (keyAt keys k) f) ∙ sym now,
@@ -84,8 +89,9 @@ numbered-as {keys} {k} {q} {count} {bytes} hk hq p l e f h =
     h
 
 -- or the next one, if it is its own key
-pub numbered-next : {keys : List ℕ} {k q count : ℕ} {bytes : List ℕ} → k < columnBound → q < rowBound → count < byteBound
-    → keyAt keys k q ≡ q → Numbering keys k q count bytes → Numbering keys k (q + 1) (count + 1) (set bytes (k * byteStride + q) count)
+pub numbered-next : {keys : List ℕ} {k q count : ℕ} {bytes : List ℕ} → k < columnBound → q < rowBound
+    → count < byteBound → keyAt keys k q ≡ q → Numbering keys k q count bytes
+    → Numbering keys k (q + 1) (count + 1) (set bytes (k * byteStride + q) count)
 numbered-next {keys} {k} {q} {count} {bytes} hk hq room e h =
     numbering-more count (count + 1) hk hq (omega arith) (omega arith) (omega arith) (omega arith)
     (λ i m. (λ u. absurd (omega (arith, h .small i m)), λ u. absurd (omega (arith, h .back i m))))
@@ -100,7 +106,8 @@ numbering-none keys k bytes l = record {
   same = λ i j m o. absurd (omega arith);
 }
 
-pub numbering-all : {keys : List ℕ} {k q end count : ℕ} {bytes : List ℕ} → end ≤ q → Numbering keys k q count bytes → SameClasses keys k end bytes
+pub numbering-all : {keys : List ℕ} {k q end count : ℕ} {bytes : List ℕ} → end ≤ q → Numbering keys k q count bytes
+    → SameClasses keys k end bytes
 numbering-all {keys} {k} {q} {end} {count} {bytes} l h = record {
   classes = λ i j m o.
       let old = h .same i j (omega arith) (omega arith) in
@@ -111,8 +118,8 @@ numbering-all {keys} {k} {q} {end} {count} {bytes} l h = record {
 }
 
 -- other members keep their classes
-classes-kept : {keys : List ℕ} {k j end : ℕ} {before after : List ℕ} → end ≤ rowBound → (j ≡ k → ⊥) → OnlyMember k before after
-    → SameClasses keys j end before → SameClasses keys j end after
+classes-kept : {keys : List ℕ} {k j end : ℕ} {before after : List ℕ} → end ≤ rowBound → (j ≡ k → ⊥)
+    → OnlyMember k before after → SameClasses keys j end before → SameClasses keys j end after
 classes-kept {keys} {k} {j} {end} {before} {after} short d only h = record {
   classes = λ p q l m.
       let e : numberAt after j p ≡ numberAt before j p = only .others j p d (omega arith) in
@@ -121,9 +128,11 @@ classes-kept {keys} {k} {j} {end} {before} {after} short d only h = record {
 }
 
 pub numbered-none : (keys : List ℕ) (end : ℕ) (bytes : List ℕ) → length bytes ≡ bytesSize → Numbered keys 0 end 0 bytes
-numbered-none keys end bytes l = record { long = l; members = omega arith; same = λ k e. absurd (omega (arith, bit-none k)) }
+numbered-none keys end bytes l =
+    record { long = l; members = omega arith; same = λ k e. absurd (omega (arith, bit-none k)) }
 
-pub numbered-more : {keys : List ℕ} {k end few : ℕ} {before after : List ℕ} (r : ℕ) → end ≤ rowBound → OnlyMember k before after
+pub numbered-more : {keys : List ℕ} {k end few : ℕ} {before after : List ℕ} (r : ℕ) → end ≤ rowBound
+    → OnlyMember k before after
     → MemberNumbered keys k end after r → Numbered keys k end few before → Numbered keys (k + 1) end (bitOr few r) after
 numbered-more {keys} {k} {end} {few} {before} {after} r short only (inl e) h =
     subst (λ (s : ℕ). Numbered keys (k + 1) end s after) (sym (ap (bitOr few) e ∙ or-zero-r few))
@@ -139,7 +148,8 @@ numbered-more {keys} {k} {end} {few} {before} {after} r short only (inr g) h =
     subst (λ (s : ℕ). Numbered keys (k + 1) end (bitOr few s) after) (sym (g .0))
     (record {
       long = only .same-length ∙ h .long;
-      members = with-below (k + 1) few k (omega (arith, h .members, pow-mono {i = k} {j = k + 1} (omega arith))) (omega arith);
+      members = with-below (k + 1) few k (omega (arith, h .members, pow-mono {i = k} {j = k + 1} (omega arith)))
+          (omega arith);
       same = λ j i. at j i (ℕ-discrete j k);
     })
   where
@@ -147,5 +157,6 @@ numbered-more {keys} {k} {end} {few} {before} {after} r short only (inr g) h =
     at j i (yes e) = subst (λ (m : ℕ). SameClasses keys m end after) (sym e) (g .1)
     at j i (no d) = classes-kept short d only (h .same j (sym (bit-with-other few j k d) ∙ i))
 
-pub numbered-all : {keys : List ℕ} {k end few : ℕ} {bytes : List ℕ} (n : ℕ) → k ≡ n → Numbered keys k end few bytes → Numbered keys n end few bytes
+pub numbered-all : {keys : List ℕ} {k end few : ℕ} {bytes : List ℕ} (n : ℕ) → k ≡ n → Numbered keys k end few bytes
+    → Numbered keys n end few bytes
 numbered-all {keys} {k} {end} {few} {bytes} n e h = subst (λ (m : ℕ). Numbered keys m end few bytes) e h

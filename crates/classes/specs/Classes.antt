@@ -14,8 +14,9 @@ use Rattle.leaders.specs.Keys.{keyAt}
 abbrev pub byteBound : ℕ
 byteBound = 256
 
--- how far the numbers of a member stand from those of the member before, a cache line more than there are rows: the same row of eight members is then in
--- eight sets of a cache, and not in one; `STRIDE` of src/lib.rt is the same number in code
+-- how far the numbers of a member stand from those of the member before, a cache line more than there are rows: the
+-- same row of eight members is then in eight sets of a cache, and not in one; `STRIDE` of src/lib.rt is the same
+-- number in code
 abbrev pub byteStride : ℕ
 byteStride = rowBound + 64
 
@@ -42,7 +43,8 @@ pub record OnlyMember (k : ℕ) (before after : List ℕ) : Type 0 where
 
 -- all rows are numbered on member k
 pub record SameClasses (keys : List ℕ) (k end : ℕ) (bytes : List ℕ) : Type 0 where
-  pub classes : (p q : ℕ) → p < end → q < end → eqb (numberAt bytes k p) (numberAt bytes k q) ≡ eqb (keyAt keys k p) (keyAt keys k q)
+  pub classes : (p q : ℕ) → p < end → q < end → eqb (numberAt bytes k p) (numberAt bytes k q)
+      ≡ eqb (keyAt keys k p) (keyAt keys k q)
 
 -- they are, and r is the member's bit; or r is 0
 abbrev pub MemberNumbered : List ℕ → ℕ → ℕ → List ℕ → ℕ → Type 0

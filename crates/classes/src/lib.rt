@@ -1,6 +1,7 @@
-// Not for callers: the classes of rows that have the same key on a member, numbered in a byte each, for the members with at most 256 of them. Rows are then
-// compared by bytes, twice as many at a time as by keys.
-// Relies on the definitions of `leaders` for keys and on a law of `filled`. Called by `scan`; `lines` reads the numbers.
+// Not for callers: the classes of rows that have the same key on a member, numbered in a byte each, for the members
+// with at most 256 of them. Rows are then compared by bytes, twice as many at a time as by keys.
+// Relies on the definitions of `leaders` for keys and on a law of `filled`. Called by `scan`; `lines` reads the
+// numbers.
 ghost use Prim.Native.Nat.{_+_, _≤_, _<_};
 ghost use mathlib.Core.Path.{_≡_};
 ghost use lib.ListN.{length};
@@ -15,7 +16,8 @@ use leaders::SIZE;
 // How many numbers a byte has; `byteBound` of specs/Classes.antt is the same number in the definitions.
 const BYTE_BOUND: usize = 256;
 
-// How far the numbers of a member stand from those of the member before; `byteStride` is the same number in the definitions.
+// How far the numbers of a member stand from those of the member before; `byteStride` is the same number in the
+// definitions.
 pub const STRIDE: usize = ROWS + 64;
 
 // How many numbers there is room for; `bytesSize` is the same number in the definitions.
@@ -28,8 +30,9 @@ fn row_of(key: u16) -> usize
     key as usize
 }
 
-// Numbers row q on member k after the rows before it: as the row that is its key, or, if that is the row itself, by the next number. It answers how many
-// numbers there are then, or 0 if there are too many or the key is no earlier row that is its own key.
+// Numbers row q on member k after the rows before it: as the row that is its key, or, if that is the row itself, by
+// the next number. It answers how many numbers there are then, or 0 if there are too many or the key is no earlier
+// row that is its own key.
 fn number_row(
     keys: &[u16; SIZE],
     k: usize,
@@ -80,7 +83,8 @@ fn number_member(keys: &[u16; SIZE], k: u32, end: usize, bytes: &mut [u8; BYTES]
     power(k)
 }
 
-// Numbers the rows on each of the first n members that has few enough classes, and answers which these are. A member that it left out would only cost time.
+// Numbers the rows on each of the first n members that has few enough classes, and answers which these are. A member
+// that it left out would only cost time.
 pub fn number(keys: &[u16; SIZE], n: u32, end: usize, bytes: &mut [u8; BYTES]) -> u32
     requires { ⌜ (n ≤ columnBound) × (end ≤ rowBound) × (length (now bytes) ≡ bytesSize) ⌝ }
     ensures { λ r. ⌜ Numbered (now (keys .entry)) n end r (now (bytes .exit)) ⌝ }

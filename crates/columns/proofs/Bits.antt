@@ -3,7 +3,8 @@ use Prim.Native.Nat.{ℕ, zero, suc, _+_, _-_, _*_, _/_, _%_, _^_, _≤_, _<_, m
 use mathlib.Core.Path.{_≡_, refl, sym, ap, ap₂, _∙_}
 use mathlib.Core.Bool.{Bool, true, false, _&&_}
 use mathlib.Core.Logic.{inl}
-use native.Mathlib.Nat.{le-trans, lt-of-le-of-lt, sub-le, sub-zero, zero-mul, one-mul, add-mul, mul-le-mul-right, mod-le, mod-lt, div-one, div-mul-le-self, two-pow-succ}
+use native.Mathlib.Nat.{le-trans, lt-of-le-of-lt, sub-le, sub-zero, zero-mul, one-mul, add-mul, mul-le-mul-right}
+use native.Mathlib.Nat.{mod-le, mod-lt, div-one, div-mul-le-self, two-pow-succ}
 use native.Mathlib.Nat.{div-eq-of-lt}
 use native.Mathlib.Numerals.{one-add}
 use native.Mathlib.Omega.{arith}

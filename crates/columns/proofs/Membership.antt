@@ -4,7 +4,8 @@ use mathlib.Core.Path.{_≡_, refl, sym, ap, ap₂, _∙_}
 use mathlib.Core.Bool.{Bool, true, false, not, _&&_, and-true}
 use mathlib.Core.Logic.{_⊎_, inl, inr, _↔_}
 use native.Mathlib.Decide.{ℕ-discrete, decLt}
-use native.Mathlib.Nat.{add-zero, eq-or-lt-of-le, le-of-suc-le-suc, not-suc-le-zero, lt-of-lt-of-le, mod-lt, mod-eq-of-lt}
+use native.Mathlib.Nat.{add-zero, eq-or-lt-of-le, le-of-suc-le-suc, not-suc-le-zero, lt-of-lt-of-le, mod-lt}
+use native.Mathlib.Nat.{mod-eq-of-lt}
 use native.Mathlib.Numerals.{add-one}
 use native.Mathlib.Omega.{arith}
 use borrow.Author.Tests.{lt-ltb, le-ltb, eqb-true, eq-eqb, ne-eqb, not-false}
@@ -59,7 +60,8 @@ member-pick x k h =
     value (suc zero) l = refl
     value (suc (suc b)) l = absurd (omega arith)
 
--- the members alone: a number below 2^columnBound with the same members, and the set's own number if all its bits are members
+-- the members alone: a number below 2^columnBound with the same members, and the set's own number if all its bits are
+-- members
 pub members-lt : (x : ℕ) → membersOf x < 2 ^ columnBound
 unfolding membersOf
 members-lt x = setBelow-lt columnBound (memberOf x)

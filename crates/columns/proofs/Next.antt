@@ -1,10 +1,11 @@
--- The next set in listing order, as arithmetic. A number that is not 0 is, from above, some bits, a 0, a run of ones and
--- a run of zeros. The next number of its size has the run's highest one moved up into the 0, and its other ones at the
--- end.
+-- The next set in listing order, as arithmetic. A number that is not 0 is, from above, some bits, a 0, a run of ones
+-- and a run of zeros. The next number of its size has the run's highest one moved up into the 0, and its other ones
+-- at the end.
 use Prim.Native.Nat.{ℕ, zero, suc, _+_, _-_, _*_, _/_, _%_, _^_, _≤_, _<_}
 use mathlib.Core.Path.{_≡_, refl, sym, ap, _∙_, subst}
 use mathlib.Core.Logic.{inl, inr, ⊎-elim}
-use native.Mathlib.Nat.{add-zero, suc-mul, mul-assoc, pow-suc, two-pow-succ, mul-le-mul-left, mul-le-mul-right, lt-of-mul-lt-mul-right}
+use native.Mathlib.Nat.{add-zero, suc-mul, mul-assoc, pow-suc, two-pow-succ, mul-le-mul-left, mul-le-mul-right}
+use native.Mathlib.Nat.{lt-of-mul-lt-mul-right}
 use native.Mathlib.Numerals.{add-one}
 use native.Mathlib.Omega.{arith}
 use lib.Count.{ones, trailingZeros, under, ones-step, ones-cat, ones-ones, ones-le}

@@ -1,9 +1,11 @@
--- The listing order of the sets of n columns, for every n: its members, that it is sorted, and what a walk along it needs.
+-- The listing order of the sets of n columns, for every n: its members, that it is sorted, and what a walk along it
+-- needs.
 use Prim.Native.Nat.{ℕ, zero, suc, _+_, _^_, _≤_, _<_}
 use mathlib.Core.Path.{_≡_, sym, ap, _∙_, subst}
 use mathlib.Core.Bool.{true, false}
 use mathlib.Core.Logic.{inl, inr, ⊎-elim}
-use mathlib.Core.List.{List, _∷_, List·Memᴰ, List·Memᴰ·head, List·Memᴰ·tail, List·Memᴰ·not-nil, List·Memᴰ·cases-cons, List·Memᴰ·append-cases, Memᴰ·append-left, Memᴰ·append-right}
+use mathlib.Core.List.{List, _∷_, List·Memᴰ, List·Memᴰ·head, List·Memᴰ·tail, List·Memᴰ·not-nil, List·Memᴰ·cases-cons}
+use mathlib.Core.List.{List·Memᴰ·append-cases, Memᴰ·append-left, Memᴰ·append-right}
 use native.Mathlib.Decide.{ℕ-discrete, decLt}
 use native.Mathlib.Omega.{arith}
 use borrow.Author.Tests.{ltb-true, lt-ltb}
@@ -17,7 +19,8 @@ use Rattle.columns.specs.Order.{Precedes, precedesOf, ofSizeFrom, ofSize
 use Rattle.columns.specs.declared.SetOrNone.the-variants.{Set, Nothing}
 use Rattle.columns.proofs.Test.{ifEq-yes, ifEq-no, ifLt-yes, ifLt-no, ifLe-yes}
 use Rattle.columns.proofs.Pascal.{from-yes, from-no, length-inOrder}
-use Rattle.columns.proofs.Lists.{Ordered, Once, ordered-once, ordered-append, nth-getD, nth-past, getD-mem, after-nth}
+use Rattle.columns.proofs.Lists.{Ordered, Once, ordered-once, ordered-append, nth-getD, nth-past, getD-mem}
+use Rattle.columns.proofs.Lists.{after-nth}
 
 -- `precedesOf` is the order
 pub precedes-test : (x y : ℕ) → Precedes x y → precedesOf x y ≡ true

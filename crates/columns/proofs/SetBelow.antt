@@ -1,9 +1,11 @@
--- Laws of the set of the numbers below n that pass a test: its bits, and how it is put together from the low end and from two parts.
+-- Laws of the set of the numbers below n that pass a test: its bits, and how it is put together from the low end and
+-- from two parts.
 use Prim.Native.Nat.{ℕ, zero, suc, _+_, _-_, _*_, _/_, _%_, _^_, _≤_, _<_}
 use mathlib.Core.Path.{_≡_, refl, sym, ap, ap₂, subst, _∙_}
 use mathlib.Core.Bool.{Bool, true, false}
 use mathlib.Core.Logic.{_⊎_, inl, inr}
-use native.Mathlib.Nat.{two-pow-succ, eq-or-lt-of-le, le-of-suc-le-suc, not-suc-le-zero, add-zero, add-suc, zero-add, suc-add, mul-one, one-mul, mul-add, add-assoc, sub-zero, lt-of-lt-of-le}
+use native.Mathlib.Nat.{two-pow-succ, eq-or-lt-of-le, le-of-suc-le-suc, not-suc-le-zero, add-zero, add-suc, zero-add}
+use native.Mathlib.Nat.{suc-add, mul-one, one-mul, mul-add, add-assoc, sub-zero, lt-of-lt-of-le}
 use native.Mathlib.Numerals.{add-one, one-add}
 use native.Mathlib.Omega.{arith}
 use lib.Pow.{pow-pos, pow-mono, pow-add, high, low}
@@ -25,7 +27,8 @@ pub setBelow-same : (n : ℕ) (f g : ℕ → Bool) → ((k : ℕ) → k < n → 
 unfolding setBelow
 setBelow-same zero f g e = refl
 setBelow-same (suc n) f g e =
-    ap₂ (λ (s : ℕ) (t : Bool). s + pick t (2 ^ n) 0) (setBelow-same n f g (λ k l. e k (omega arith))) (e n (omega arith))
+    ap₂ (λ (s : ℕ) (t : Bool). s + pick t (2 ^ n) 0) (setBelow-same n f g (λ k l. e k (omega arith)))
+    (e n (omega arith))
 
 -- every number passes
 pub setBelow-all : (n : ℕ) (f : ℕ → Bool) → ((k : ℕ) → k < n → f k ≡ true) → setBelow n f ≡ 2 ^ n - 1
@@ -48,7 +51,8 @@ setBelow-split m (suc n) f =
     ap (λ (k : ℕ). setBelow k f) (add-suc m n)
     ∙ ap₂ (λ (s t : ℕ). s + t) (setBelow-split m n f) (scaled (f (m + n)) m n)
     ∙ add-assoc (setBelow m f) (2 ^ m * setBelow n (λ k. f (m + k))) (2 ^ m * pick (f (m + n)) (2 ^ n) 0)
-    ∙ ap (λ (t : ℕ). setBelow m f + t) (sym (mul-add (2 ^ m) (setBelow n (λ k. f (m + k))) (pick (f (m + n)) (2 ^ n) 0)))
+    ∙ ap (λ (t : ℕ). setBelow m f + t)
+    (sym (mul-add (2 ^ m) (setBelow n (λ k. f (m + k))) (pick (f (m + n)) (2 ^ n) 0)))
 
 doubled : (t : Bool) (n : ℕ) → pick t (2 ^ suc n) 0 ≡ 2 * pick t (2 ^ n) 0
 doubled true n = omega (arith, two-pow-succ n)
@@ -108,7 +112,8 @@ setFrom-more f n k s d p l e g =
     let low = setBelow-low (n - k) (λ j. f (k - 1 + j)) in
     let high : setBelow (n - k) (λ j. f (k - 1 + suc j)) ≡ setFrom f n k =
     setBelow-same (n - k) (λ j. f (k - 1 + suc j)) (λ j. f (k + j)) (λ j h. ap f (shift j)) in
-    let first : pick {A = ℕ} (f (k - 1 + 0)) 1 0 ≡ pick (f (k - 1)) 1 0 = ap (λ (j : ℕ). pick {A = ℕ} (f j) 1 0) (add-zero (k - 1)) in
+    let first : pick {A = ℕ} (f (k - 1 + 0)) 1 0 ≡ pick (f (k - 1)) 1 0 =
+    ap (λ (j : ℕ). pick {A = ℕ} (f j) 1 0) (add-zero (k - 1)) in
     ap₂ (λ (x y : ℕ). 2 * x + y) (e ∙ sym high) (g ∙ sym first)
     ∙ turned (setBelow (n - k) (λ j. f (k - 1 + suc j))) (pick (f (k - 1 + 0)) 1 0)
     ∙ sym low ∙ ap (λ (i : ℕ). setBelow i (λ j. f (k - 1 + j))) (sym m)

@@ -1,5 +1,5 @@
--- Two numbers are alike as sets if every method of a set answers the same for both, in every argument and beside every other set. The
--- methods' contracts are these definitions.
+-- Two numbers are alike as sets if every method of a set answers the same for both, in every argument and beside
+-- every other set. The methods' contracts are these definitions.
 use Prim.Native.Nat.{ℕ}
 use mathlib.Core.Path.{_≡_}
 use Rattle.columns.specs.Set.{memberOf, membersOf, memberCount, subsetOf, withoutOf}

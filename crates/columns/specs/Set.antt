@@ -1,5 +1,6 @@
--- A set of columns is a number: column k is bit k ("The catalogue file"), and a column at or above the bound is no member ("Order and
--- places"). So several numbers have the same members, and what a set answers is told by its members alone.
+-- A set of columns is a number: column k is bit k ("The catalogue file"), and a column at or above the bound is no
+-- member ("Order and places"). So several numbers have the same members, and what a set answers is told by its
+-- members alone.
 use Prim.Native.Nat.{ℕ, zero, suc, _+_, _-_, _*_, _/_, _%_, _^_}
 use mathlib.Core.Bool.{Bool, not, _&&_}
 use lib.Dec.{ltb, eqb}
@@ -44,8 +45,8 @@ subsetOf x y = eqb (countBelow columnBound (λ k. memberOf x k && not (memberOf 
 unfoldable pub withoutOf : ℕ → ℕ → ℕ
 withoutOf x k = x - bit x k * 2 ^ k
 
--- the same of numbers whose bits are all members: how many bits are 1, and is every bit of x a bit of y? The bits of both are then
--- those of x
+-- the same of numbers whose bits are all members: how many bits are 1, and is every bit of x a bit of y? The bits of
+-- both are then those of x
 abbrev pub sizeOf : ℕ → ℕ
 sizeOf x = ones x
 

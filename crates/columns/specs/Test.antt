@@ -1,4 +1,5 @@
--- Tests on numbers that choose between two values. They stay shut, so that a proof takes them apart by the laws of `proofs/Test.antt`.
+-- Tests on numbers that choose between two values. They stay shut, so that a proof takes them apart by the laws of
+-- `proofs/Test.antt`.
 use Prim.Native.Nat.{ℕ}
 use mathlib.Core.Bool.{Bool, true, false}
 use lib.Dec.{ltb, leb, eqb}

@@ -1,5 +1,5 @@
-// Sets of columns, by value, and their listing order: by size, then by number. Every method goes by the members alone: bits at
-// or above the bound count for nothing.
+// Sets of columns, by value, and their listing order: by size, then by number. Every method goes by the members
+// alone: bits at or above the bound count for nothing.
 // Relies on `bits` for powers of two. Called by every crate that speaks of left sides.
 ghost use Prim.Native.Nat.{ℕ, suc, _≤_, _<_};
 ghost use mathlib.Core.Path.{_≡_};

@@ -1,5 +1,5 @@
--- What the two contracts say in the words of demand 2: an answered question is 'holds' exactly if all rows that agree on the left agree on
--- the right, and the pair is 'none' exactly then.
+-- What the two contracts say in the words of demand 2: an answered question is 'holds' exactly if all rows that agree
+-- on the left agree on the right, and the pair is 'none' exactly then.
 use Prim.Native.Nat.{ℕ}
 use mathlib.Core.Path.{_≡_, refl, sym, ap, subst, _∙_}
 use mathlib.Core.Logic.{_↔_}
@@ -19,8 +19,10 @@ use Rattle.model.proofs.View.{holds-true, true-holds}
 use Rattle.dependency.proofs.Replies.{ask-meant}
 
 module _ (cat : List ℕ) (t x a w : ℕ) (z : questionCode cat t x a w ≡ 0) where
-  pub ask-exactly : (r : AskAnswer) → askReply r ≡ askMeaning cat t x a w → (r ≡ ask-answer.Holds) ↔ Holds (view cat t) x a
-  ask-exactly r e = (λ f. holds-true (view cat t) x a (said (holds (view cat t) x a) refl (ap askReply f)), λ h. at r e h)
+  pub ask-exactly : (r : AskAnswer) → askReply r ≡ askMeaning cat t x a w → (r ≡ ask-answer.Holds)
+      ↔ Holds (view cat t) x a
+  ask-exactly r e =
+      (λ f. holds-true (view cat t) x a (said (holds (view cat t) x a) refl (ap askReply f)), λ h. at r e h)
     where
       meant : askReply r ≡ answered (pick (holds (view cat t) x a) 1 0 ∷ [])
       meant = e ∙ sym (ask-meant cat t x a w z)
@@ -28,7 +30,8 @@ module _ (cat : List ℕ) (t x a w : ℕ) (z : questionCode cat t x a w ≡ 0) w
       said : (h : Bool) → holds (view cat t) x a ≡ h → askReply r ≡ answered (1 ∷ []) → holds (view cat t) x a ≡ true
       said true f g = f
       said false f g =
-          let k : answered (0 ∷ []) ≡ answered (1 ∷ []) = ap (λ (h : Bool). answered (pick h 1 0 ∷ [])) (sym f) ∙ sym meant ∙ g in
+          let k : answered (0 ∷ []) ≡ answered (1 ∷ []) =
+          ap (λ (h : Bool). answered (pick h 1 0 ∷ [])) (sym f) ∙ sym meant ∙ g in
           let n : _≡_ {A = ℕ} 0 1 = cc in
           absurd (omega arith)
 
@@ -36,7 +39,8 @@ module _ (cat : List ℕ) (t x a w : ℕ) (z : questionCode cat t x a w ≡ 0) w
       at ask-answer.Holds e h = refl
       at ask-answer.Breaks e h =
           let k : answered (0 ∷ []) ≡ answered (1 ∷ []) =
-          e ∙ sym (ask-meant cat t x a w z) ∙ ap (λ (h : Bool). answered (pick h 1 0 ∷ [])) (true-holds (view cat t) x a h) in
+          e ∙ sym (ask-meant cat t x a w z)
+          ∙ ap (λ (h : Bool). answered (pick h 1 0 ∷ [])) (true-holds (view cat t) x a h) in
           let n : _≡_ {A = ℕ} 0 1 = cc in
           absurd (omega arith)
       at (ask-answer.Refused q) e h =
@@ -44,8 +48,10 @@ module _ (cat : List ℕ) (t x a w : ℕ) (z : questionCode cat t x a w ≡ 0) w
           let n : _≡_ {A = ℕ} 0 1 = cc in
           absurd (omega arith)
 
-  pub pair-exactly : (r : PairAnswer) → PairMeaning cat t x a w (pairReply r) → (r ≡ pair-answer.Nothing) ↔ Holds (view cat t) x a
-  pair-exactly r m = (λ f. there (holds (view cat t) x a) refl f, λ h. back r (m .none z (true-holds (view cat t) x a h)))
+  pub pair-exactly : (r : PairAnswer) → PairMeaning cat t x a w (pairReply r) → (r ≡ pair-answer.Nothing)
+      ↔ Holds (view cat t) x a
+  pair-exactly r m =
+      (λ f. there (holds (view cat t) x a) refl f, λ h. back r (m .none z (true-holds (view cat t) x a h)))
     where
       there : (h : Bool) → holds (view cat t) x a ≡ h → r ≡ pair-answer.Nothing → Holds (view cat t) x a
       there true e f = holds-true (view cat t) x a e
@@ -71,4 +77,5 @@ module _ (cat : List ℕ) (t x a w : ℕ) (z : questionCode cat t x a w ≡ 0) w
           let f = k .2 in
           let one : k .0 ≡ p = cc in
           let other : k .1 ≡ q = cc in
-          subst (λ (j : ℕ). Breaks (view cat t) x a p j) other (subst (λ (j : ℕ). Breaks (view cat t) x a j (k .1)) one (k .3))
+          subst (λ (j : ℕ). Breaks (view cat t) x a p j) other
+          (subst (λ (j : ℕ). Breaks (view cat t) x a j (k .1)) one (k .3))

@@ -93,11 +93,13 @@ module _ (n a : ℕ) where
       told : (t : Bool) → holds (keyView keys n end) x a ≡ t → not (eqb r 0) ≡ t
       told true e =
           let j = rightBit n a in
-          let b : bit r j ≡ 1 = given j .1 (bit-power-same j, right-bit-le, ap (holds (keyView keys n end) x) right-bit-right ∙ e) in
+          let b : bit r j ≡ 1 =
+          given j .1 (bit-power-same j, right-bit-le, ap (holds (keyView keys n end) x) right-bit-right ∙ e) in
           let some : r ≡ 0 → ⊥ = λ z. omega (arith, bit-none j, ap (λ (m : ℕ). bit m j) (sym z) ∙ b) in
           ap not (ne-eqb r 0 some)
       told false e =
-          let none : r ≡ 0 = bits-same r r 0 (below-own-power r) (pow-pos r) (λ k l. bit-zero-if r k (off k) ∙ sym (bit-none k)) in
+          let none : r ≡ 0 =
+          bits-same r r 0 (below-own-power r) (pow-pos r) (λ k l. bit-zero-if r k (off k) ∙ sym (bit-none k)) in
           ap not (eq-eqb r 0 none)
         where
           off : (k : ℕ) → bit r k ≡ 1 → ⊥
@@ -134,21 +136,26 @@ module _ {b : List ℕ} {t x a : ℕ} (posed : Posed b t x a) where
   pub posed-keyed : {m : ℕ} {keys : List ℕ} → m ≡ membersAsked x a → LaidFor (view b t) m keys
       → Keyed (view b t) (membersAsked x a) (visible b t) (rows b t) keys
   posed-keyed {m} {keys} e laid =
-      laid-catalogue b t (membersAsked x a) keys (posed .accepted) (posed .target) (subst (λ (s : ℕ). LaidFor (view b t) s keys) e laid)
+      laid-catalogue b t (membersAsked x a) keys (posed .accepted) (posed .target)
+      (subst (λ (s : ℕ). LaidFor (view b t) s keys) e laid)
 
   keyed-by : {n end : ℕ} {keys : List ℕ} → n ≡ visible b t → end ≡ rows b t
-      → Keyed (view b t) (membersAsked x a) (visible b t) (rows b t) keys → Keyed (view b t) (membersAsked x a) n end keys
+      → Keyed (view b t) (membersAsked x a) (visible b t) (rows b t) keys
+      → Keyed (view b t) (membersAsked x a) n end keys
   keyed-by {n} {end} {keys} e f h =
       subst (λ (k : ℕ). Keyed (view b t) (membersAsked x a) k end keys) (sym e)
       (subst (λ (k : ℕ). Keyed (view b t) (membersAsked x a) (visible b t) k keys) (sym f) h)
 
   pub posed-holds : {n end w : ℕ} {keys : List ℕ} (r : ℕ) → n ≡ visible b t → end ≡ rows b t → w ≡ 2 ^ rightBit n a
-      → Keyed (view b t) (membersAsked x a) (visible b t) (rows b t) keys → Given keys n end x w r → not (eqb r 0) ≡ holds (view b t) x a
+      → Keyed (view b t) (membersAsked x a) (visible b t) (rows b t) keys → Given keys n end x w r
+      → not (eqb r 0) ≡ holds (view b t) x a
   posed-holds {n} {end} {w} {keys} r e f g keyed given =
-      given-holds n a (posed-right e) keys end x r (subst (λ (m : ℕ). Given keys n end x m r) g given) (keyed-by e f keyed)
+      given-holds n a (posed-right e) keys end x r (subst (λ (m : ℕ). Given keys n end x m r) g given)
+      (keyed-by e f keyed)
 
   pub posed-breaking : {n end : ℕ} {keys : List ℕ} (found : Found) → n ≡ visible b t → end ≡ rows b t
       → Keyed (view b t) (membersAsked x a) (visible b t) (rows b t) keys → FirstBreaking (keyView keys n end) x a found
       → FirstBreaking (view b t) x a found
   posed-breaking {n} {end} {keys} found e f keyed first =
-      keyed-breaking (keyed-by e f keyed) x a (left-within x a (keyView keys n end)) (right-keyed x a n (posed-right e)) found first
+      keyed-breaking (keyed-by e f keyed) x a (left-within x a (keyView keys n end)) (right-keyed x a n (posed-right e))
+      found first

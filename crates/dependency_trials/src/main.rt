@@ -1,5 +1,5 @@
-// Runs the proved cases K1 to K9 and the boundary cases of the question and of the breaking pair through the compiled calls, and prints what
-// came back.
+// Runs the proved cases K1 to K9 and the boundary cases of the question and of the breaking pair through the compiled
+// calls, and prints what came back.
 mod large;
 mod print;
 
@@ -75,7 +75,8 @@ fn ancestors() {
     trial(b"own column gives the row", &THREE, 2, 4, 255);
 }
 
-// One table of 16 columns with no row, one row, 4,096 rows and 4,097 rows: its first column is a key, and the others are not.
+// One table of 16 columns with no row, one row, 4,096 rows and 4,097 rows: its first column is a key, and the others
+// are not.
 fn flat_tables() {
     trial_flat(b"no row", 0, 0, 255);
     trial_flat(b"one row", 1, 0, 255);

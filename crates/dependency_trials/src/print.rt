@@ -1,5 +1,6 @@
-// One trial: both calls on the same question, and what they answered on a line: the reply of `ask`, how many work words were 0 after it, and
-// the same of `pair`. All work words are 7 before each call, and there is one more than is ever lent.
+// One trial: both calls on the same question, and what they answered on a line: the reply of `ask`, how many work
+// words were 0 after it, and the same of `pair`. All work words are 7 before each call, and there is one more than is
+// ever lent.
 use model::AskAnswer;
 use model::PairAnswer;
 use trial_kit::end;

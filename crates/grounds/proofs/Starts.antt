@@ -40,5 +40,6 @@ start-after cat (suc i) n =
     ap (λ (j : ℕ). tableEnd cat j) one-less
 
 -- the end of the last table, from the numbers that are read
-pub last-end : (cat : List ℕ) {n l e : ℕ} → n ≡ tables cat → l ≡ n - 1 → e ≡ tableEnd cat l → e ≡ tableEnd cat (tables cat - 1)
+pub last-end : (cat : List ℕ) {n l e : ℕ} → n ≡ tables cat → l ≡ n - 1 → e ≡ tableEnd cat l
+    → e ≡ tableEnd cat (tables cat - 1)
 last-end cat p q r = r ∙ ap (tableEnd cat) (q ∙ ap (λ (m : ℕ). m - 1) p)

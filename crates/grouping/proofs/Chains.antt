@@ -12,7 +12,8 @@ use Rattle.leaders.specs.Keys.{firstSame}
 use Rattle.leaders.proofs.Numbers.{firstSame-le, firstSame-word, same-first}
 use Rattle.grouping.specs.Chains.{chains, chainOf, LeadsIn, LastIn, LinkedBelow, Chained, Placed}
 
--- the walk along the chain of row q stands at c: a leader of that chain, and no leader from there on to q has the word of q
+-- the walk along the chain of row q stands at c: a leader of that chain, and no leader from there on to q has the
+-- word of q
 pub record Walking (ws links : List ℕ) (q c : ℕ) : Type 0 where
   pub linked : LinkedBelow ws q links
   pub high : c ≤ q
@@ -35,7 +36,8 @@ module _ (ws links : List ℕ) (q c : ℕ) where
       subst (λ (h : ℕ). LastIn ws (c - 1) h (getD links (c - 1) 0)) (n .chain)
       (w .linked .link (c - 1) (omega (arith, w .high)) (n .leads))
 
-  pub walking-more : Walking ws links q c → 0 < c → (getD ws (c - 1) 0 ≡ getD ws q 0 → ⊥) → Walking ws links q (getD links (c - 1) 0)
+  pub walking-more : Walking ws links q c → 0 < c → (getD ws (c - 1) 0 ≡ getD ws q 0 → ⊥)
+      → Walking ws links q (getD links (c - 1) 0)
   walking-more w s other = record {
     linked = w .linked;
     high = omega (arith, w .high, next .high);
@@ -63,7 +65,9 @@ module _ (ws links : List ℕ) (q c : ℕ) where
       first = firstSame ws q
 
       at : Dec (first < q) → q ≡ first
-      at (yes l) = absurd (w .passed first (omega arith) l (same-first ws first q .0 (firstSame-word ws q)) (firstSame-word ws q))
+      at (yes l) =
+          absurd (w .passed first (omega arith) l (same-first ws first q .0 (firstSame-word ws q))
+          (firstSame-word ws q))
       at (no n) = omega (arith, firstSame-le ws q)
 
 -- no row is chained yet, the next row leads itself, or it does not
@@ -96,8 +100,8 @@ last-same ws m h c other l = record {
     at p i j n (yes e) = other (subst (LeadsIn ws h) e n)
     at p i j n (no d) = l .last p i (omega arith) n
 
-pub chained-follower : (ws : List ℕ) (m : ℕ) (heads links : List ℕ) → (firstSame ws m ≡ m → ⊥) → Chained ws m heads links
-    → Chained ws (m + 1) heads links
+pub chained-follower : (ws : List ℕ) (m : ℕ) (heads links : List ℕ) → (firstSame ws m ≡ m → ⊥)
+    → Chained ws m heads links → Chained ws (m + 1) heads links
 chained-follower ws m heads links other k = record {
   chains-long = k .chains-long;
   links-long = k .links-long;
@@ -109,8 +113,9 @@ chained-follower ws m heads links other k = record {
     below p l f (yes e) = absurd (other (subst (λ (r : ℕ). firstSame ws r ≡ r) e f))
     below p l f (no d) = omega arith
 
-pub chained-leader : (ws : List ℕ) (m h : ℕ) (heads links : List ℕ) → m < rowBound → (h ≡ chainOf (getD ws m 0)) × (h < chains)
-    → firstSame ws m ≡ m → Chained ws m heads links → Chained ws (m + 1) (set heads h (m + 1)) (set links m (getD heads h 0))
+pub chained-leader : (ws : List ℕ) (m h : ℕ) (heads links : List ℕ) → m < rowBound → (h ≡ chainOf (getD ws m 0))
+    × (h < chains) → firstSame ws m ≡ m → Chained ws m heads links
+    → Chained ws (m + 1) (set heads h (m + 1)) (set links m (getD heads h 0))
 chained-leader ws m h heads links l is leads k = record {
   chains-long = length-set heads h (m + 1) ∙ k .chains-long;
   links-long = length-set links m (getD heads h 0) ∙ k .links-long;
@@ -121,9 +126,11 @@ chained-leader ws m h heads links l is leads k = record {
     head : (j : ℕ) → j < chains → Dec (j ≡ h) → LastIn ws (m + 1) j (getD (set heads h (m + 1)) j 0)
     head j i (yes e) =
         subst (λ (i : ℕ). LastIn ws (m + 1) i (getD (set heads h (m + 1)) i 0)) (sym e)
-        (subst (LastIn ws (m + 1) h) (sym (getD-set-same heads h (m + 1) 0 (omega (arith, k .chains-long, is .1)))) (record {
+        (subst (LastIn ws (m + 1) h) (sym (getD-set-same heads h (m + 1) 0 (omega (arith, k .chains-long, is .1))))
+        (record {
           high = omega arith;
-          leads = λ s. let e : m ≡ m + 1 - 1 = omega arith in subst (LeadsIn ws h) e (record { leads = leads; chain = sym (is .0) });
+          leads = λ s. let e : m ≡ m + 1 - 1 =
+              omega arith in subst (LeadsIn ws h) e (record { leads = leads; chain = sym (is .0) });
           last = λ p i j. absurd (omega arith);
         }))
     head j i (no d) =
@@ -134,14 +141,16 @@ chained-leader ws m h heads links l is leads k = record {
         → LastIn ws p (chainOf (getD ws p 0)) (getD (set links m (getD heads h 0)) p 0)
     link p i f (yes e) =
         subst (λ (r : ℕ). LastIn ws r (chainOf (getD ws r 0)) (getD (set links m (getD heads h 0)) r 0)) (sym e)
-        (subst (LastIn ws m (chainOf (getD ws m 0))) (sym (getD-set-same links m (getD heads h 0) 0 (omega (arith, k .links-long))))
+        (subst (LastIn ws m (chainOf (getD ws m 0)))
+        (sym (getD-set-same links m (getD heads h 0) 0 (omega (arith, k .links-long))))
         (chained-head k is))
     link p i f (no d) =
         subst (LastIn ws p (chainOf (getD ws p 0))) (sym (getD-set-other links m p (getD heads h 0) 0 d))
         (k .linked .link p (omega arith) f)
 
 -- the row has its leader
-module _ (ws : List ℕ) (q p : ℕ) (heads links before : List ℕ) (is : p ≡ firstSame ws q) (k : Chained ws q heads links) where
+module _ (ws : List ℕ) (q p : ℕ) (heads links before : List ℕ) (is : p ≡ firstSame ws q)
+    (k : Chained ws q heads links) where
   pub placed-follower : (p ≡ q → ⊥) → Placed ws q heads links before (set before q p) 1
   placed-follower n =
       let other : firstSame ws q ≡ q → ⊥ = λ e. n (is ∙ e) in

@@ -36,7 +36,8 @@ grouping-begun ws end out short long = record {
   };
 }
 
-module _ (ws : List ℕ) (q : ℕ) (heads links before after : List ℕ) (r : ℕ) (placed : Placed ws q heads links before after r) where
+module _ (ws : List ℕ) (q : ℕ) (heads links before after : List ℕ) (r : ℕ)
+    (placed : Placed ws q heads links before after r) where
   -- a row counts for 1 at most, and for 0 exactly if it leads itself
   counts : Dec (firstSame ws q ≡ q) → (r ≤ 1) × (r ≡ 0 → firstSame ws q ≡ q) × (firstSame ws q ≡ q → r ≡ 0)
   counts (yes e) = let z = placed .follows ∙ ifEq-yes 1 e in (omega arith, λ i. e, λ i. z)
@@ -71,8 +72,8 @@ module _ (ws : List ℕ) (q : ℕ) (heads links before after : List ℕ) (r : �
     grouped = grouped-more n (omega (arith, g .short)) (g .grouped);
   }
 
-pub grouping-done : {ws : List ℕ} {end q : ℕ} {heads links out : List ℕ} {n : ℕ} → end ≤ q → Grouping ws end q heads links out n
-    → Grouped ws end out n
+pub grouping-done : {ws : List ℕ} {end q : ℕ} {heads links out : List ℕ} {n : ℕ} → end ≤ q
+    → Grouping ws end q heads links out n → Grouped ws end out n
 grouping-done {ws} {end} {q} {out} {n} l g =
     let e : q ≡ end = omega (arith, g .reached) in
     subst (λ (m : ℕ). Grouped ws m out n) e (g .grouped)

@@ -1,4 +1,5 @@
--- Chains of the leaders so far, one for each value of a hash of the words. A place in a chain is one more than a row, and 0 is the end.
+-- Chains of the leaders so far, one for each value of a hash of the words. A place in a chain is one more than a row,
+-- and 0 is the end.
 use Prim.Native.Nat.{ℕ, _+_, _-_, _*_, _/_, _%_, _^_, _≤_, _<_}
 use mathlib.Core.Path.{_≡_}
 use mathlib.Core.List.{List}

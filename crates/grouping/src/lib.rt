@@ -1,5 +1,6 @@
-// Not for callers: rows grouped by one word each. The leader of a row is the lowest row with the same word; it is found in chains of the leaders
-// so far, one chain for each value of a hash of the words, and words are compared exactly.
+// Not for callers: rows grouped by one word each. The leader of a row is the lowest row with the same word; it is
+// found in chains of the leaders so far, one chain for each value of a hash of the words, and words are compared
+// exactly.
 // Relies on the definitions and laws of `leaders` and on a law of `filled`. Called by `keys` and `partition`.
 ghost use Prim.Native.Nat.{_+_, _≤_, _<_};
 ghost use mathlib.Core.Path.{_≡_};
@@ -22,7 +23,8 @@ fn chain(w: u64) -> usize
     ((low * 2246822519 + high * 1640531527) >> 19) as usize % CHAINS
 }
 
-// The leader of row q, in a chain of the leaders before it, or q itself. A place in a chain is one more than a row, and 0 is the end.
+// The leader of row q, in a chain of the leaders before it, or q itself. A place in a chain is one more than a row,
+// and 0 is the end.
 fn leader(words: &[u64; ROWS], links: &[u16; ROWS], head: u16, q: usize) -> usize
     requires { ⌜ q < rowBound ⌝ }
     requires { ⌜ LastIn (now words) q (chainOf (getD (now words) q 0)) head ⌝ }
@@ -40,7 +42,8 @@ fn leader(words: &[u64; ROWS], links: &[u16; ROWS], head: u16, q: usize) -> usiz
     q
 }
 
-// Gives row q its leader, and puts it at the head of its chain if it leads itself. It answers 0 for a row that does, and else 1.
+// Gives row q its leader, and puts it at the head of its chain if it leads itself. It answers 0 for a row that does,
+// and else 1.
 fn place(
     words: &[u64; ROWS],
     q: usize,
@@ -51,7 +54,8 @@ fn place(
     requires { ⌜ q < rowBound ⌝ }
     requires { ⌜ Chained (now words) q (now heads) (now links) ⌝ }
     requires { ⌜ length (now leaders) ≡ rowBound ⌝ }
-    ensures { λ r. ⌜ Placed (now (words .entry)) q (now (heads .exit)) (now (links .exit)) (now (leaders .entry)) (now (leaders .exit)) r ⌝ }
+    ensures { λ r. ⌜ Placed (now (words .entry)) q (now (heads .exit)) (now (links .exit)) (now (leaders .entry))
+        (now (leaders .exit)) r ⌝ }
 {
     let h = chain(words[q]);
     let p = leader(words, links, heads[h], q);
@@ -64,7 +68,8 @@ fn place(
     0
 }
 
-// The leaders of the rows before the end. It answers how many rows do not lead themselves; promised is that it is 0 exactly if every row does.
+// The leaders of the rows before the end. It answers how many rows do not lead themselves; promised is that it is 0
+// exactly if every row does.
 pub fn group(words: &[u64; ROWS], end: usize, leaders: &mut [u16; ROWS]) -> usize
     requires { ⌜ end ≤ rowBound ⌝ }
     requires { ⌜ length (now leaders) ≡ rowBound ⌝ }

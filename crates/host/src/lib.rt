@@ -1,6 +1,6 @@
 // The public calls for C and other languages: numbers and slices, a refusal as its number made negative.
-// Relies on every crate whose call it hands on, and on `numbers` for the number of an answer. Called by host programs; include/cagberin.h
-// declares it.
+// Relies on every crate whose call it hands on, and on `numbers` for the number of an answer. Called by host
+// programs; include/cagberin.h declares it.
 ghost use Prim.Native.Nat.{ℕ};
 ghost use mathlib.Core.Path.{_≡_};
 ghost use lib.IntN.{pos, negsuc};
@@ -48,7 +48,8 @@ pub extern "C" fn cagberin_ask(
     ensures { λ r. ⌜ r ≡ numberOf 0 (askMeaning (now (cat .entry)) target left right (length (now (work .entry)))) ⌝ }
     ensures { λ _.
         ⌜ now (work .exit)
-        ≡ wordsAfter (questionCode (now (cat .entry)) target left right (length (now (work .entry)))) (now (work .entry)) ⌝ }
+        ≡ wordsAfter (questionCode (now (cat .entry)) target left right (length (now (work .entry))))
+        (now (work .entry)) ⌝ }
 {
     match dependency::ask(cat, target, left, right, work) {
         AskAnswer::Holds => 1,
@@ -57,7 +58,8 @@ pub extern "C" fn cagberin_ask(
     }
 }
 
-// 1 with two rows that break the dependency, the lower first, or 0 where it holds; the two are written only with 1. The work words as above.
+// 1 with two rows that break the dependency, the lower first, or 0 where it holds; the two are written only with 1.
+// The work words as above.
 #[no_mangle]
 pub extern "C" fn cagberin_pair(
     cat: &[u8],
@@ -74,7 +76,8 @@ pub extern "C" fn cagberin_pair(
         → (now (first .exit) ≡ now (first .entry)) × (now (second .exit) ≡ now (second .entry))) ⌝ }
     ensures { λ _.
         ⌜ now (work .exit)
-        ≡ wordsAfter (questionCode (now (cat .entry)) target left right (length (now (work .entry)))) (now (work .entry)) ⌝ }
+        ≡ wordsAfter (questionCode (now (cat .entry)) target left right (length (now (work .entry))))
+        (now (work .entry)) ⌝ }
 {
     match dependency::pair(cat, target, left, right, work) {
         PairAnswer::Rows {
@@ -90,7 +93,8 @@ pub extern "C" fn cagberin_pair(
     }
 }
 
-// The number of entries of the packed list that ends a file, with the number of bytes in front of it, which is written only then.
+// The number of entries of the packed list that ends a file, with the number of bytes in front of it, which is
+// written only then.
 #[no_mangle]
 pub extern "C" fn cagberin_open(file: &[u8], front: &mut usize) -> i64
     ensures { λ r. ⌜ r ≡ numberOf 0 (openMeaning (now (file .entry))) ⌝ }
@@ -108,8 +112,9 @@ pub extern "C" fn cagberin_open(file: &[u8], front: &mut usize) -> i64
     }
 }
 
-// Reads entries of the packed list that ends a file, from an index on, as many as the run has records: the number of entries, which stand at
-// the start of the run; 0 behind the last. The other records are untouched, and a refusal alters none.
+// Reads entries of the packed list that ends a file, from an index on, as many as the run has records: the number of
+// entries, which stand at the start of the run; 0 behind the last. The other records are untouched, and a refusal
+// alters none.
 #[no_mangle]
 pub extern "C" fn cagberin_read(file: &[u8], from: usize, run: &mut [Entry]) -> i64
     ensures { λ r. ⌜ (r ≡ numberOf 0 (readMeaning (now (file .entry)) from (length (now (run .entry)))))
@@ -119,8 +124,8 @@ pub extern "C" fn cagberin_read(file: &[u8], from: usize, run: &mut [Entry]) -> 
     numbers::read_number(answer)
 }
 
-// Lists from a place on: the number of entries, which stand at the start of the run, with the place reached and the sets passed. Every work
-// word is 0 after an answer and after refusal 13. A refusal alters nothing else.
+// Lists from a place on: the number of entries, which stand at the start of the run, with the place reached and the
+// sets passed. Every work word is 0 after an answer and after refusal 13. A refusal alters nothing else.
 #[no_mangle]
 pub extern "C" fn cagberin_list(
     cat: &[u8],
@@ -132,7 +137,8 @@ pub extern "C" fn cagberin_list(
     passed: &mut u32,
 ) -> i64
     ensures { λ r. ⌜ ListMeaning (now (cat .entry))
-        (seen place budget (now (run .entry)) (now (work .entry)) (listSeen r (now (reached .exit)) (now (passed .exit)))
+        (seen place budget (now (run .entry)) (now (work .entry))
+        (listSeen r (now (reached .exit)) (now (passed .exit)))
         (now (run .exit)) (now (work .exit))) × ((n : ℕ) → r ≡ negsuc n
         → (now (reached .exit) ≡ now (reached .entry)) × (now (passed .exit) ≡ now (passed .entry))) ⌝ }
 {

@@ -1,4 +1,5 @@
--- The walk that lays the keys of a target, table by table up to the root: how far it has come, and what each table adds.
+-- The walk that lays the keys of a target, table by table up to the root: how far it has come, and what each table
+-- adds.
 use Prim.Native.Nat.{ℕ, _+_, _-_, _*_, _%_, _^_, _≤_, _<_}
 use mathlib.Core.Path.{_≡_, sym, ap, ap₂, subst, _∙_}
 use mathlib.Core.List.{List}
@@ -30,8 +31,8 @@ use Rattle.filled.proofs.Filled.{filled-first}
 use Rattle.climb.proofs.Within.{row-within}
 use Rattle.keys.specs.Column.{codeOf, agreeBy, leaderBy, LaidTable}
 
--- the rows of table t lead to rows of table `at`, with so many columns visible there, on which they agree as the rows reached do; and the members of
--- the set from there on are laid
+-- the rows of table t lead to rows of table `at`, with so many columns visible there, on which they agree as the rows
+-- reached do; and the members of the set from there on are laid
 pub record Laying (cat : List ℕ) (t set at above : ℕ) (reached keys : List ℕ) : Type 0 where
   pub table : at < tables cat
   pub left : above ≡ visible cat at
@@ -41,10 +42,12 @@ pub record Laying (cat : List ℕ) (t set at above : ℕ) (reached keys : List �
   pub exists : (q : ℕ) → q < rows cat t → getD reached q 0 < rows cat at
   pub agree : (k p q : ℕ) → k < above → p < rows cat t → q < rows cat t
       → agreeAt cat t k p q ≡ agreeAt cat at k (getD reached p 0) (getD reached q 0)
-  pub laid : (k q : ℕ) → above ≤ k → k < visible cat t → In k set → q < rows cat t → keyAt keys k q ≡ leaderOf (view cat t) (2 ^ k) q
+  pub laid : (k q : ℕ) → above ≤ k → k < visible cat t → In k set → q < rows cat t
+      → keyAt keys k q ≡ leaderOf (view cat t) (2 ^ k) q
 
-pub laying-begun : (cat : List ℕ) (t n set end : ℕ) (before reached keys : List ℕ) → t < tables cat → n ≡ visible cat t → end ≡ rows cat t
-    → length before ≡ rowBound → length keys ≡ keysSize → Filled 0 end (λ q. q) before reached → Laying cat t set t n reached keys
+pub laying-begun : (cat : List ℕ) (t n set end : ℕ) (before reached keys : List ℕ) → t < tables cat → n ≡ visible cat t
+    → end ≡ rows cat t → length before ≡ rowBound → length keys ≡ keysSize → Filled 0 end (λ q. q) before reached
+    → Laying cat t set t n reached keys
 laying-begun cat t n set end before reached keys h e f wide long put = record {
   table = h;
   left = e;
@@ -67,7 +70,8 @@ agreeOn-member v k p q l =
     same-test (agreeOn v (2 ^ k) p q) (v .agree k p q) (λ t. one .0 (on .0 t)) (λ t. on .1 (one .1 t))
 
 -- where the cell of row x in column i of a table stands
-cell-at : (cat : List ℕ) (at o c i x : ℕ) → o ≡ tableAt cat at → c ≡ columns cat at → codeOf cat (o + 8 + 4 * i) (2 + 4 * c) x ≡ cell cat at x i
+cell-at : (cat : List ℕ) (at o c i x : ℕ) → o ≡ tableAt cat at → c ≡ columns cat at
+    → codeOf cat (o + 8 + 4 * i) (2 + 4 * c) x ≡ cell cat at x i
 unfolding cell rowAt
 cell-at cat at o c i x e f =
     let g : o + 8 + 4 * i + x * (2 + 4 * c) ≡ o + 6 + x * (2 + 4 * c) + 2 + 4 * i = omega arith in
@@ -75,14 +79,16 @@ cell-at cat at o c i x e f =
 
 -- rows compared on own column i of a table, by the rows of it that they lead to
 agree-by : (cat : List ℕ) (at o c i : ℕ) (reached : List ℕ) (p q : ℕ) → o ≡ tableAt cat at → c ≡ columns cat at
-    → agreeBy cat (o + 8 + 4 * i) (2 + 4 * c) reached p q ≡ agreeAt cat at (inherited cat at + i) (getD reached p 0) (getD reached q 0)
+    → agreeBy cat (o + 8 + 4 * i) (2 + 4 * c) reached p q
+    ≡ agreeAt cat at (inherited cat at + i) (getD reached p 0) (getD reached q 0)
 unfolding agreeBy
 agree-by cat at o c i reached p q e f =
     ap₂ (cellsAgree (getD reached p 0) (getD reached q 0)) (cell-at cat at o c i (getD reached p 0) e f)
     (cell-at cat at o c i (getD reached q 0) e f)
     ∙ sym (agree-own cat at i (getD reached p 0) (getD reached q 0))
 
-module _ (cat : List ℕ) (ok : Accepted cat) {t set at above : ℕ} {reached keys : List ℕ} (h : Laying cat t set at above reached keys)
+module _ (cat : List ℕ) (ok : Accepted cat) {t set at above : ℕ} {reached keys : List ℕ}
+    (h : Laying cat t set at above reached keys)
     {o c : ℕ} (e : o ≡ tableAt cat at) (f : c ≡ columns cat at) where
   -- the own columns of the table are the last of those left
   pub own-left : c ≤ above
@@ -109,10 +115,12 @@ module _ (cat : List ℕ) (ok : Accepted cat) {t set at above : ℕ} {reached ke
       → leaderBy cat (o + 8 + 4 * i) (2 + 4 * c) reached q ≡ leaderOf (view cat t) (2 ^ (above - c + i)) q
   unfolding leaderBy leaderOf
   own-leader i q li lq =
-      firstFrom-same (λ p. agreeBy cat (o + 8 + 4 * i) (2 + 4 * c) reached p q) (λ p. agreeOn (view cat t) (2 ^ (above - c + i)) p q) q 0
+      firstFrom-same (λ p. agreeBy cat (o + 8 + 4 * i) (2 + 4 * c) reached p q)
+      (λ p. agreeOn (view cat t) (2 ^ (above - c + i)) p q) q 0
       (λ p l m. same p (omega arith))
     where
-      same : (p : ℕ) → p < q → agreeBy cat (o + 8 + 4 * i) (2 + 4 * c) reached p q ≡ agreeOn (view cat t) (2 ^ (above - c + i)) p q
+      same : (p : ℕ) → p < q → agreeBy cat (o + 8 + 4 * i) (2 + 4 * c) reached p q
+          ≡ agreeOn (view cat t) (2 ^ (above - c + i)) p q
       same p l =
           let k : inherited cat at + i ≡ above - c + i = omega (arith, left-inherited) in
           agree-by cat at o c i reached p q e f
@@ -122,7 +130,8 @@ module _ (cat : List ℕ) (ok : Accepted cat) {t set at above : ℕ} {reached ke
 
   -- with the own columns of the table, the members from the first of them on are laid
   laid-from : (end : ℕ) (after : List ℕ) → end ≡ rows cat t → LaidTable cat o c (above - c) reached end set 0 keys after
-      → (k q : ℕ) → above - c ≤ k → k < visible cat t → In k set → q < rows cat t → keyAt after k q ≡ leaderOf (view cat t) (2 ^ k) q
+      → (k q : ℕ) → above - c ≤ k → k < visible cat t → In k set → q < rows cat t
+      → keyAt after k q ≡ leaderOf (view cat t) (2 ^ k) q
   laid-from end after g m k q lk lv i lq = own (decLt k above)
     where
       own : Dec (k < above) → keyAt after k q ≡ leaderOf (view cat t) (2 ^ k) q
@@ -134,18 +143,21 @@ module _ (cat : List ℕ) (ok : Accepted cat) {t set at above : ℕ} {reached ke
       own (no n) = m .kept k q (omega (arith, own-left)) ∙ h .laid k q (omega arith) lv i lq
 
   -- no member of the set is below: the walk ends
-  pub laying-done : (end : ℕ) (after : List ℕ) → end ≡ rows cat t → LaidTable cat o c (above - c) reached end set 0 keys after
+  pub laying-done : (end : ℕ) (after : List ℕ) → end ≡ rows cat t
+      → LaidTable cat o c (above - c) reached end set 0 keys after
       → set % 2 ^ (above - c) ≡ 0 → LaidFor (view cat t) set after
   laying-done end after g m none k q lv i lq = either (decLt k (above - c))
     where
       either : Dec (k < above - c) → keyAt after k q ≡ leaderOf (view cat t) (2 ^ k) q
-      either (yes l) = absurd (omega (arith, sym (bit-below set k (above - c) l) ∙ ap (λ (x : ℕ). bit x k) none ∙ bit-none k, i))
+      either (yes l) =
+          absurd (omega (arith, sym (bit-below set k (above - c) l) ∙ ap (λ (x : ℕ). bit x k) none ∙ bit-none k, i))
       either (no n) = laid-from end after g m k q (omega arith) lv i lq
 
   -- some are: the table is not the root, and the walk goes on from its parent
   not-root : (set % 2 ^ (above - c) ≡ 0 → ⊥) → at ≡ 0 → ⊥
   not-root some r =
-      let z : set % 2 ^ 0 ≡ 0 = omega arith in some (ap (λ (k : ℕ). set % 2 ^ k) (left-inherited ∙ inherited-root cat ok at r) ∙ z)
+      let z : set % 2 ^ 0 ≡ 0 =
+      omega arith in some (ap (λ (k : ℕ). set % 2 ^ k) (left-inherited ∙ inherited-root cat ok at r) ∙ z)
 
   has-parent : (set % 2 ^ (above - c) ≡ 0 → ⊥) → 0 < at
   has-parent some = let n = not-root some in omega arith
@@ -161,7 +173,8 @@ module _ (cat : List ℕ) (ok : Accepted cat) {t set at above : ℕ} {reached ke
   pub parent-lower : (up : ℕ) → up ≡ u16At cat (o + 2) → (set % 2 ^ (above - c) ≡ 0 → ⊥) → up < at
   parent-lower up g some = omega (arith, parent-at up g, accepted-parent cat ok at (h .table) (has-parent some))
 
-  pub laying-next : (end up : ℕ) (after moved : List ℕ) → end ≡ rows cat t → LaidTable cat o c (above - c) reached end set 0 keys after
+  pub laying-next : (end up : ℕ) (after moved : List ℕ) → end ≡ rows cat t
+      → LaidTable cat o c (above - c) reached end set 0 keys after
       → (set % 2 ^ (above - c) ≡ 0 → ⊥) → up ≡ u16At cat (o + 2)
       → Filled 0 end (λ q. u16At cat (o + 6 + getD reached q 0 * (2 + 4 * c))) reached moved
       → Laying cat t set up (above - c) moved after

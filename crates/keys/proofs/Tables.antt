@@ -19,8 +19,8 @@ module _ (cat : List ℕ) (o c low : ℕ) (reached : List ℕ) (end set : ℕ) (
   table-begun = record { same-length = refl; laid = λ i q l h. absurd (omega arith); kept = λ k q l. refl }
 
   -- a column that is not in the set is passed
-  pub table-passed : (j : ℕ) (keys : List ℕ) → bit set (low + (j - 1)) ≡ 0 → LaidTable cat o c low reached end set j before keys
-      → LaidTable cat o c low reached end set (j - 1) before keys
+  pub table-passed : (j : ℕ) (keys : List ℕ) → bit set (low + (j - 1)) ≡ 0
+      → LaidTable cat o c low reached end set j before keys → LaidTable cat o c low reached end set (j - 1) before keys
   table-passed j keys none h = record {
     same-length = h .same-length;
     laid = λ i q li hi n lq. at i q li hi n lq (ℕ-discrete (j - 1) i);
@@ -35,7 +35,8 @@ module _ (cat : List ℕ) (o c low : ℕ) (reached : List ℕ) (end set : ℕ) (
   -- the keys of another are the leaders by its words
   pub table-more : (j : ℕ) (words leaders keys after : List ℕ) (r : ℕ) → 0 < j → j ≤ c → end ≤ rowBound
       → AgreeWords cat (o + 8 + 4 * (j - 1)) (2 + 4 * c) reached end words → Grouped words end leaders r
-      → Filled ((low + (j - 1)) * rowBound) ((low + (j - 1)) * rowBound + end) (λ i. getD leaders (i - (low + (j - 1)) * rowBound) 0) keys after
+      → Filled ((low + (j - 1)) * rowBound) ((low + (j - 1)) * rowBound + end)
+      (λ i. getD leaders (i - (low + (j - 1)) * rowBound) 0) keys after
       → LaidTable cat o c low reached end set j before keys → LaidTable cat o c low reached end set (j - 1) before after
   table-more j words leaders keys after r p l short w g put h = record {
     same-length = put .same-length ∙ h .same-length;
@@ -50,7 +51,9 @@ module _ (cat : List ℕ) (o c low : ℕ) (reached : List ℕ) (end set : ℕ) (
           → keyAt after (low + i) q ≡ leaderBy cat (o + 8 + 4 * i) (2 + 4 * c) reached q
       at i q li hi n lq (yes e) =
           subst (λ (i : ℕ). keyAt after (low + i) q ≡ leaderBy cat (o + 8 + 4 * i) (2 + 4 * c) reached q) e
-          (put .inside ((low + (j - 1)) * rowBound + q) (omega arith) (omega arith) ∙ ap (λ (i : ℕ). getD leaders i 0) (place q) ∙ g .leaders q lq ∙ leader-by-words cat (o + 8 + 4 * (j - 1)) (2 + 4 * c) reached end words w q lq)
+          (put .inside ((low + (j - 1)) * rowBound + q) (omega arith) (omega arith)
+          ∙ ap (λ (i : ℕ). getD leaders i 0) (place q) ∙ g .leaders q lq
+          ∙ leader-by-words cat (o + 8 + 4 * (j - 1)) (2 + 4 * c) reached end words w q lq)
       at i q li hi n lq (no d) = put .past ((low + i) * rowBound + q) (omega arith) ∙ h .laid i q (omega arith) hi n lq
 
   -- as far

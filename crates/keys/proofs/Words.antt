@@ -40,13 +40,14 @@ cells-present : (x y c d : ℕ) → (x ≡ y → ⊥) → (c ≡ missing → ⊥
 unfolding cellsAgree
 cells-present x y c d n e = simp (ne-eqb x y n, ne-eqb c missing e)
 
-words-two : (c d x y : ℕ) → c ≤ missing → d ≤ missing → (x ≡ y → ⊥) → eqb (cellWord c x) (cellWord d y) ≡ cellsAgree x y c d
+words-two : (c d x y : ℕ) → c ≤ missing → d ≤ missing → (x ≡ y → ⊥)
+    → eqb (cellWord c x) (cellWord d y) ≡ cellsAgree x y c d
 words-two c d x y lc ld n = at (ℕ-discrete c missing) (ℕ-discrete d missing)
   where
     at : Dec (c ≡ missing) → Dec (d ≡ missing) → eqb (cellWord c x) (cellWord d y) ≡ cellsAgree x y c d
     at (yes e) (yes f) =
-        ap₂ eqb (word-missing c x e) (word-missing d y f) ∙ ne-eqb (missing + 1 + x) (missing + 1 + y) (λ g. n (omega arith))
-        ∙ sym (cells-missing x y c d n e)
+        ap₂ eqb (word-missing c x e) (word-missing d y f)
+        ∙ ne-eqb (missing + 1 + x) (missing + 1 + y) (λ g. n (omega arith)) ∙ sym (cells-missing x y c d n e)
     at (yes e) (no f) =
         ap₂ eqb (word-missing c x e) (word-present d y f) ∙ ne-eqb (missing + 1 + x) d (λ g. omega arith)
         ∙ sym (cells-missing x y c d n e)
@@ -62,7 +63,8 @@ words-same f x y lx ly = at (ℕ-discrete x y)
   where
     at : Dec (x ≡ y) → eqb (cellWord (f x) x) (cellWord (f y) y) ≡ cellsAgree x y (f x) (f y)
     at (yes e) =
-        eq-eqb (cellWord (f x) x) (cellWord (f y) y) (ap (λ (z : ℕ). cellWord (f z) z) e) ∙ sym (cells-one x y (f x) (f y) e)
+        eq-eqb (cellWord (f x) x) (cellWord (f y) y) (ap (λ (z : ℕ). cellWord (f z) z) e)
+        ∙ sym (cells-one x y (f x) (f y) e)
     at (no n) = words-two (f x) (f y) x y lx ly n
 
 -- the words of the rows below q, filled one after the other
@@ -70,10 +72,12 @@ pub record Filling (cat : List ℕ) (from width : ℕ) (reached : List ℕ) (q :
   pub put : Filled 0 q (λ p. cellWord (codeOf cat from width (getD reached p 0)) (getD reached p 0)) before words
   pub small : (p : ℕ) → p < q → codeOf cat from width (getD reached p 0) ≤ missing
 
-pub filling-begun : (cat : List ℕ) (from width : ℕ) (reached before : List ℕ) → Filling cat from width reached 0 before before
+pub filling-begun : (cat : List ℕ) (from width : ℕ) (reached before : List ℕ)
+    → Filling cat from width reached 0 before before
 filling-begun cat from width reached before = record { put = filled-none; small = λ p l. absurd (omega arith) }
 
-pub filling-more : (cat : List ℕ) (from width : ℕ) (reached : List ℕ) (q : ℕ) (before words : List ℕ) (code x : ℕ) → q < length before
+pub filling-more : (cat : List ℕ) (from width : ℕ) (reached : List ℕ) (q : ℕ) (before words : List ℕ) (code x : ℕ)
+    → q < length before
     → code ≡ codeOf cat from width (getD reached q 0) → code ≤ missing → x ≡ cellWord code (getD reached q 0)
     → Filling cat from width reached q before words → Filling cat from width reached (q + 1) before (set words q x)
 filling-more cat from width reached q before words code x l e s f h =
@@ -82,7 +86,8 @@ filling-more cat from width reached q before words code x l e s f h =
       small = below-more (h .small) (omega arith);
     }
 
-pub filling-done : (cat : List ℕ) (from width : ℕ) (reached : List ℕ) (end q : ℕ) (before words : List ℕ) → length before ≡ rowBound → end ≤ q
+pub filling-done : (cat : List ℕ) (from width : ℕ) (reached : List ℕ) (end q : ℕ) (before words : List ℕ)
+    → length before ≡ rowBound → end ≤ q
     → Filling cat from width reached q before words → AgreeWords cat from width reached end words
 unfolding agreeBy
 filling-done cat from width reached end q before words long l h =
@@ -90,11 +95,13 @@ filling-done cat from width reached end q before words long l h =
       long = h .put .same-length ∙ long;
       same = λ p r lp lr.
           ap₂ eqb (filled-first (h .put) p (omega arith)) (filled-first (h .put) r (omega arith))
-          ∙ words-same (codeOf cat from width) (getD reached p 0) (getD reached r 0) (h .small p (omega arith)) (h .small r (omega arith));
+          ∙ words-same (codeOf cat from width) (getD reached p 0) (getD reached r 0) (h .small p (omega arith))
+          (h .small r (omega arith));
     }
 
 -- the leaders by the words
-pub leader-by-words : (cat : List ℕ) (from width : ℕ) (reached : List ℕ) (end : ℕ) (words : List ℕ) → AgreeWords cat from width reached end words
+pub leader-by-words : (cat : List ℕ) (from width : ℕ) (reached : List ℕ) (end : ℕ) (words : List ℕ)
+    → AgreeWords cat from width reached end words
     → (q : ℕ) → q < end → firstSame words q ≡ leaderBy cat from width reached q
 unfolding firstSame leaderBy
 leader-by-words cat from width reached end words h q l =

@@ -1,5 +1,5 @@
--- One column of a table, by where it stands: the code of row x is the 4-byte number x widths on from the column's first. The rows of a target are
--- compared on it by the rows of the table that they lead to.
+-- One column of a table, by where it stands: the code of row x is the 4-byte number x widths on from the column's
+-- first. The rows of a target are compared on it by the rows of the table that they lead to.
 use Prim.Native.Nat.{ℕ, _+_, _*_, _≤_, _<_}
 use mathlib.Core.Path.{_≡_}
 use mathlib.Core.List.{List}
@@ -29,8 +29,8 @@ agreeBy cat from width reached p q =
 unfoldable pub leaderBy : List ℕ → ℕ → ℕ → List ℕ → ℕ → ℕ
 leaderBy cat from width reached q = firstFrom (λ p. agreeBy cat from width reached p q) q 0
 
--- the word of row x with a code: the code, and beyond all codes the row itself where the cell is missing. Two rows of a table agree exactly if their
--- words are equal
+-- the word of row x with a code: the code, and beyond all codes the row itself where the cell is missing. Two rows of
+-- a table agree exactly if their words are equal
 unfoldable pub cellWord : ℕ → ℕ → ℕ
 cellWord code x = ifEq code missing (missing + 1 + x) code
 
@@ -39,9 +39,10 @@ pub record AgreeWords (cat : List ℕ) (from width : ℕ) (reached : List ℕ) (
   pub long : length words ≡ rowBound
   pub same : (p q : ℕ) → p < end → q < end → eqb (getD words p 0) (getD words q 0) ≡ agreeBy cat from width reached p q
 
--- of a table that starts at byte o and has c columns, the first of them member low: the keys of the columns from j on that are in the set are laid,
--- and those of higher members are as before
-pub record LaidTable (cat : List ℕ) (o c low : ℕ) (reached : List ℕ) (end set j : ℕ) (before after : List ℕ) : Type 0 where
+-- of a table that starts at byte o and has c columns, the first of them member low: the keys of the columns from j on
+-- that are in the set are laid, and those of higher members are as before
+pub record LaidTable (cat : List ℕ) (o c low : ℕ) (reached : List ℕ) (end set j : ℕ) (before after : List ℕ) : Type
+    0 where
   pub same-length : length after ≡ length before
   pub laid : (i q : ℕ) → j ≤ i → i < c → In (low + i) set → q < end
       → keyAt after (low + i) q ≡ leaderBy cat (o + 8 + 4 * i) (2 + 4 * c) reached q

@@ -1,5 +1,5 @@
-// The keys of one member: of a column of a table, for the rows of a target that lead there. Each row gets a word, equal exactly where two rows agree,
-// and the rows are grouped by their words.
+// The keys of one member: of a column of a table, for the rows of a target that lead there. Each row gets a word,
+// equal exactly where two rows agree, and the rows are grouped by their words.
 ghost use Prim.Native.Nat.{ℕ, _+_, _-_, _*_, _≤_, _<_};
 ghost use mathlib.Core.Path.{_≡_};
 ghost use lib.ListN.{length, getD};
@@ -48,7 +48,8 @@ pub fn fill_words(
 // Copies the leaders of one member into its place.
 pub fn put_keys(k: usize, end: usize, leaders: &[u16; ROWS], keys: &mut [u16; SIZE])
     requires { ⌜ (k < columnBound) × (end ≤ rowBound) × (length (now keys) ≡ keysSize) ⌝ }
-    ensures { λ _. ⌜ Filled (k * rowBound) (k * rowBound + end) (λ (i : ℕ). getD (now (leaders .entry)) (i - k * rowBound) 0) (now (keys .entry)) (now (keys .exit)) ⌝ }
+    ensures { λ _. ⌜ Filled (k * rowBound) (k * rowBound + end)
+        (λ (i : ℕ). getD (now (leaders .entry)) (i - k * rowBound) 0) (now (keys .entry)) (now (keys .exit)) ⌝ }
 {
     let at = k * ROWS;
     let mut row: usize = 0;

@@ -1,7 +1,7 @@
-// Not for callers: the keys of a target's members, laid from the catalogue. The key of a row on a member is the lowest row that agrees with it
-// there, so above the keys nothing looks at codes, missing cells or ancestor rows.
-// Relies on `layout` for what stands where, on `climb` for the rows reached, on `grouping` for rows grouped by words, and on the laws of `leaders` and
-// `filled`. Called by `rights` and `dependency`.
+// Not for callers: the keys of a target's members, laid from the catalogue. The key of a row on a member is the
+// lowest row that agrees with it there, so above the keys nothing looks at codes, missing cells or ancestor rows.
+// Relies on `layout` for what stands where, on `climb` for the rows reached, on `grouping` for rows grouped by words,
+// and on the laws of `leaders` and `filled`. Called by `rights` and `dependency`.
 mod column;
 
 ghost use Prim.Native.Nat.{ℕ, _+_, _*_, _^_, _≤_, _<_};
@@ -28,8 +28,8 @@ use layout::trailer;
 use leaders::ROWS;
 use leaders::SIZE;
 
-// Lays the members of a set among the c columns of the table at o, the last first, where the first is member low and the rows of the target lead
-// to the rows reached.
+// Lays the members of a set among the c columns of the table at o, the last first, where the first is member low and
+// the rows of the target lead to the rows reached.
 fn lay_table(
     cat: &[u8],
     o: usize,
@@ -42,7 +42,8 @@ fn lay_table(
 )
     requires { ⌜ (o < 2 ^ 32) × (low + c ≤ columnBound) × (end ≤ rowBound) × (length (now keys) ≡ keysSize) ⌝ }
     requires { ⌜ ((q : ℕ) → q < end → o + 6 + getD (now reached) q 0 * (2 + 4 * c) + (2 + 4 * c) ≤ length (now cat)) ⌝ }
-    ensures { λ _. ⌜ LaidTable (now (cat .entry)) o c low (now (reached .entry)) end set 0 (now (keys .entry)) (now (keys .exit)) ⌝ }
+    ensures { λ _. ⌜ LaidTable (now (cat .entry)) o c low (now (reached .entry)) end set 0 (now (keys .entry))
+        (now (keys .exit)) ⌝ }
 {
     let mut words = [0; ROWS];
     let mut leaders = [0; ROWS];
@@ -58,14 +59,15 @@ fn lay_table(
     }
 }
 
-// Lays the keys of the members in a set, table by table from the target up to the last that has one: the key of a row on a member is the lowest row
-// that agrees with it there.
+// Lays the keys of the members in a set, table by table from the target up to the last that has one: the key of a row
+// on a member is the lowest row that agrees with it there.
 pub fn lay(cat: &[u8], target: u32, n: u32, set: u32, keys: &mut [u16; SIZE])
     requires { ⌜ Accepted (now cat) ⌝ }
     requires { ⌜ target < tables (now cat) ⌝ }
     requires { ⌜ n ≡ visible (now cat) target ⌝ }
     requires { ⌜ length (now keys) ≡ keysSize ⌝ }
-    ensures { λ _. ⌜ (length (now (keys .exit)) ≡ keysSize) × LaidFor (view (now (cat .entry)) target) set (now (keys .exit)) ⌝ }
+    ensures { λ _. ⌜ (length (now (keys .exit)) ≡ keysSize)
+        × LaidFor (view (now (cat .entry)) target) set (now (keys .exit)) ⌝ }
 {
     let first = trailer(cat) as usize;
     let end = index(rows(cat, target));

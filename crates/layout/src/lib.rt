@@ -1,6 +1,7 @@
-// Not for callers: what stands where in a catalogue, for any bytes and any numbers of tables, rows and columns. Nothing is parsed into a state
-// of its own.
-// Relies on `file` for numbers in a file and on the definitions of `model`. Called by `grounds`, `catalogue` and all that ask a catalogue.
+// Not for callers: what stands where in a catalogue, for any bytes and any numbers of tables, rows and columns.
+// Nothing is parsed into a state of its own.
+// Relies on `file` for numbers in a file and on the definitions of `model`. Called by `grounds`, `catalogue` and all
+// that ask a catalogue.
 ghost use mathlib.Core.Path.{_≡_};
 ghost use Prim.Native.Nat.{_+_, _-_, _*_, _^_, _<_};
 ghost use Rattle.model.specs.Catalogue.{tables as tablesOf, trailer as trailerOf, tableAt, columns as columnsOf};

@@ -1,4 +1,5 @@
--- Keys that are right for a view tell all that the view tells of rows on the members of their set: leaders, what holds, agree sets, minimal rights.
+-- Keys that are right for a view tell all that the view tells of rows on the members of their set: leaders, what
+-- holds, agree sets, minimal rights.
 use Prim.Native.Nat.{ℕ, zero, suc, _-_, _^_, _≤_, _<_}
 use mathlib.Core.Path.{_≡_, refl, sym, ap, ap₂, subst, _∙_}
 use mathlib.Core.Logic.{_⊎_, inl, inr, _↔_}
@@ -14,7 +15,8 @@ use Rattle.columns.specs.Test.{pick}
 use Rattle.columns.proofs.Bits.{bit-full}
 use Rattle.columns.proofs.SetBelow.{setBelow-same}
 use Rattle.model.specs.Bounds.{rowBound, row}
-use Rattle.model.specs.View.{View, Equivalence, In, isIn, Within, AgreeOn, agreeOn, agreeRight, holds, minimal, allBelow}
+use Rattle.model.specs.View.{View, Equivalence, In, isIn, Within, AgreeOn, agreeOn, agreeRight, holds, minimal}
+use Rattle.model.specs.View.{allBelow}
 use Rattle.model.proofs.Truth.{eqb-is, same-test}
 use Rattle.model.proofs.View.{isIn-is, without-within}
 use Rattle.table.specs.Broken.{agreeSetOf, Occurs, Table, minimalMask}
@@ -81,16 +83,19 @@ module _ {v : View} {set n end : ℕ} {keys : List ℕ} (keyed : Keyed v set n e
   unfolding agreeOn
   keyed-agreeOn y p q within lp lq =
       ap (λ (m : ℕ). allBelow m (λ k. not (isIn k y) || v .agree k p q)) (keyed .members)
-      ∙ allBelow-same n (λ k. not (isIn k y) || v .agree k p q) (λ k. not (isIn k y) || eqb (keyAt keys k p) (keyAt keys k q))
+      ∙ allBelow-same n (λ k. not (isIn k y) || v .agree k p q)
+      (λ k. not (isIn k y) || eqb (keyAt keys k p) (keyAt keys k q))
       (λ k l. implied-same (isIn k y) (v .agree k p q) (eqb (keyAt keys k p) (keyAt keys k q))
       (λ t. keyed .same k p q l (within k l (isIn-is k y .0 t)) lp lq))
 
-  pub keyed-right : (a p q : ℕ) → KeyedRight n set a → p < end → q < end → agreeRight v a p q ≡ agreeRight (keyView keys n end) a p q
+  pub keyed-right : (a p q : ℕ) → KeyedRight n set a → p < end → q < end
+      → agreeRight v a p q ≡ agreeRight (keyView keys n end) a p q
   keyed-right a p q (inl e) lp lq = by-row (v .agree a p q) ∙ sym (by-row (eqb (keyAt keys a p) (keyAt keys a q)))
     where
       by-row : (t : Bool) → pick (eqb a row) (eqb p q) t ≡ eqb p q
       by-row t = ap (λ (s : Bool). pick s (eqb p q) t) (eq-eqb a row e)
-  keyed-right a p q (inr i) lp lq = ap (λ (t : Bool). pick (eqb a row) (eqb p q) t) (keyed .same a p q (i .0) (i .1) lp lq)
+  keyed-right a p q (inr i) lp lq =
+      ap (λ (t : Bool). pick (eqb a row) (eqb p q) t) (keyed .same a p q (i .0) (i .1) lp lq)
 
   pub keyed-holds : (y a : ℕ) → Within (keyView keys n end) y set → KeyedRight n set a
       → holds v y a ≡ holds (keyView keys n end) y a
@@ -99,7 +104,8 @@ module _ {v : View} {set n end : ℕ} {keys : List ℕ} (keyed : Keyed v set n e
       ap (λ (m : ℕ). allBelow m (λ p. allBelow m (λ q. not (agreeOn v y p q) || agreeRight v a p q))) (keyed .rows)
       ∙ allBelow-same end (λ p. allBelow end (λ q. not (agreeOn v y p q) || agreeRight v a p q))
       (λ p. allBelow end (λ q. not (agreeOn w y p q) || agreeRight w a p q))
-      (λ p lp. allBelow-same end (λ q. not (agreeOn v y p q) || agreeRight v a p q) (λ q. not (agreeOn w y p q) || agreeRight w a p q)
+      (λ p lp. allBelow-same end (λ q. not (agreeOn v y p q) || agreeRight v a p q)
+      (λ q. not (agreeOn w y p q) || agreeRight w a p q)
       (λ q lq. ap₂ (λ (s t : Bool). not s || t) (keyed-agreeOn y p q within lp lq) (keyed-right a p q right lp lq)))
     where
       w : View
@@ -111,7 +117,8 @@ module _ {v : View} {set n end : ℕ} {keys : List ℕ} (keyed : Keyed v set n e
   keyed-minimal y a within right =
       ap₂ (λ (s t : Bool). s && (not (isIn a y) && t)) (keyed-holds y a within right)
       (ap (λ (m : ℕ). allBelow m (λ k. not (isIn k y) || not (holds v (withoutOf y k) a))) (keyed .members)
-      ∙ allBelow-same n (λ k. not (isIn k y) || not (holds v (withoutOf y k) a)) (λ k. not (isIn k y) || not (holds w (withoutOf y k) a))
+      ∙ allBelow-same n (λ k. not (isIn k y) || not (holds v (withoutOf y k) a))
+      (λ k. not (isIn k y) || not (holds w (withoutOf y k) a))
       (λ k l. ap (λ (t : Bool). not (isIn k y) || not t)
       (keyed-holds (withoutOf y k) a (λ j m i. within j m (without-within w y k j m i)) right)))
     where
@@ -124,7 +131,8 @@ right-keyed n a h = at (ℕ-discrete a n)
   where
     at : Dec (a ≡ n) → KeyedRight n (2 ^ n - 1) (rightAt n a)
     at (yes e) = inl (right-row n a e)
-    at (no d) = subst (KeyedRight n (2 ^ n - 1)) (sym (right-column n a d)) (inr (omega arith, bit-full n a (omega arith)))
+    at (no d) =
+        subst (KeyedRight n (2 ^ n - 1)) (sym (right-column n a d)) (inr (omega arith, bit-full n a (omega arith)))
 
 module _ {v : View} {n end : ℕ} {keys : List ℕ} (keyed : Keyed v (2 ^ n - 1) n end keys) where
   pub keyed-agreeSet : (p q : ℕ) → p < end → q < end → agreeSetOf v p q ≡ agreeSetOf (keyView keys n end) p q

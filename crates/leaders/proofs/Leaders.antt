@@ -1,5 +1,5 @@
--- What leaders tell, over any view in which agreement is an equivalence: which rows agree, what holds, what is a key, and which two rows are the first to
--- break a dependency.
+-- What leaders tell, over any view in which agreement is an equivalence: which rows agree, what holds, what is a key,
+-- and which two rows are the first to break a dependency.
 use Prim.Native.Nat.{ℕ, zero, suc, _+_, _≤_, _<_}
 use mathlib.Core.Path.{_≡_, refl, sym, ap₂, subst}
 use mathlib.Core.Logic.{_⊎_, inl, inr, _↔_}
@@ -58,7 +58,8 @@ firstFrom-is test (suc n) i = at (test i) refl (firstFrom-is test n (suc i))
         below j l m t (no d) = f .lowest j (omega arith) m t
 
 -- tests that say the same have the same first
-pub firstFrom-same : (f g : ℕ → Bool) (n i : ℕ) → ((j : ℕ) → i ≤ j → j < i + n → f j ≡ g j) → firstFrom f n i ≡ firstFrom g n i
+pub firstFrom-same : (f g : ℕ → Bool) (n i : ℕ) → ((j : ℕ) → i ≤ j → j < i + n → f j ≡ g j)
+    → firstFrom f n i ≡ firstFrom g n i
 unfolding firstFrom
 firstFrom-same f g zero i same = refl
 firstFrom-same f g (suc n) i same =
@@ -114,7 +115,8 @@ module _ (v : View) (eq : Equivalence v) where
   same-leader x p q = (
     λ h. omega (arith, same-leader-le x p q h, same-leader-le x q p (agreeOn-symmetric v eq x p q h)),
     λ e.
-        agreeOn-transitive v eq x p (leaderOf v x p) q (agreeOn-symmetric v eq x (leaderOf v x p) p (leader-is x p .agrees))
+        agreeOn-transitive v eq x p (leaderOf v x p) q
+        (agreeOn-symmetric v eq x (leaderOf v x p) p (leader-is x p .agrees))
         (subst (λ (r : ℕ). AgreeOn v x r q) (sym e) (leader-is x q .agrees)),
   )
 
@@ -164,29 +166,41 @@ module _ (v : View) (eq : Equivalence v) where
         omega (arith, same, leader-le v x p),
         record {
           exists = b .exists;
-          apart = λ u. b .right (agreeRight-join a (leaderOf v x q) p q (subst (λ (r : ℕ). T (agreeRight v a r p)) same t) u);
+          apart =
+              λ u. b .right (agreeRight-join a (leaderOf v x q) p q (subst (λ (r : ℕ). T (agreeRight v a r p)) same t)
+              u);
         },
       )
-      at (inr n) = (p, omega (arith, b .lower), leader-le v x p, record { exists = omega (arith, b .lower, b .exists); apart = n })
+      at (inr n) = (
+        p,
+        omega (arith, b .lower),
+        leader-le v x p,
+        record { exists = omega (arith, b .lower, b .exists); apart = n },
+      )
 
   pub no-stray-holds : (x a : ℕ) → ((q : ℕ) → Strays v x a q → ⊥) → (p q : ℕ) → Breaks v x a p q → ⊥
   no-stray-holds x a none p q b = let r = breaks-strays x a p q b in none (r .0) (r .3)
 
-  -- the first two rows that break a dependency: the lowest row that strays of those with the lowest leader, and its leader
-  pub first-pair : (x a p q : ℕ) → Strays v x a q → p ≡ leaderOf v x q → ((r : ℕ) → leaderOf v x r < p → Strays v x a r → ⊥)
+  -- the first two rows that break a dependency: the lowest row that strays of those with the lowest leader, and its
+  -- leader
+  pub first-pair : (x a p q : ℕ) → Strays v x a q → p ≡ leaderOf v x q
+      → ((r : ℕ) → leaderOf v x r < p → Strays v x a r → ⊥)
       → ((r : ℕ) → r < q → leaderOf v x r ≡ p → Strays v x a r → ⊥)
       → Breaks v x a p q × ((m n : ℕ) → (m < p) ⊎ ((m ≡ p) × (n < q)) → Breaks v x a m n → ⊥)
   first-pair x a p q s e lower earlier = (
     subst (λ (r : ℕ). Breaks v x a r q) (sym e) (strays-breaks x a q s),
-    λ m n before b. let r = breaks-strays x a m n b in at m n (r .0) before (r .1) (r .2) (r .3) (decLt (leaderOf v x (r .0)) p),
+    λ m n before b. let r =
+        breaks-strays x a m n b in at m n (r .0) before (r .1) (r .2) (r .3) (decLt (leaderOf v x (r .0)) p),
   )
     where
-      at : (m n r : ℕ) → (m < p) ⊎ ((m ≡ p) × (n < q)) → r ≤ n → leaderOf v x r ≤ m → Strays v x a r → Dec (leaderOf v x r < p) → ⊥
+      at : (m n r : ℕ) → (m < p) ⊎ ((m ≡ p) × (n < q)) → r ≤ n → leaderOf v x r ≤ m → Strays v x a r
+          → Dec (leaderOf v x r < p) → ⊥
       at m n r before k l t (yes i) = lower r i t
       at m n r (inl j) k l t (no i) = i (omega arith)
       at m n r (inr j) k l t (no i) = earlier r (omega (arith, j .1)) (omega (arith, j .0)) t
 
-  -- the rights that x breaks are those that the agree sets of the rows with their leaders lack, rows that lead themselves left out
+  -- the rights that x breaks are those that the agree sets of the rows with their leaders lack, rows that lead
+  -- themselves left out
   pub broken-by-leaders : (x a : ℕ) → a ≤ v .members → v .members ≤ columnBound
       → (holds v x (rightAt (v .members) a) ≡ false)
       ↔ ((q : ℕ) × (q < v .rows) × (LeadsItself v x q → ⊥) × (bit (agreeSetOf v (leaderOf v x q) q) a ≡ 0))

@@ -1,4 +1,5 @@
--- Rows told apart by one number each: the first row with the same number is a leader, and so the laws of leaders hold of it.
+-- Rows told apart by one number each: the first row with the same number is a leader, and so the laws of leaders hold
+-- of it.
 use Prim.Native.Nat.{ℕ, _≤_, _<_}
 use mathlib.Core.Path.{_≡_, sym, subst, _∙_}
 use mathlib.Core.Logic.{_↔_}
@@ -24,7 +25,8 @@ firstSame-leader v x ws q same =
     let equal = eqb-is (getD ws p 0) (getD ws q 0) in
     let agree = agreeOn-is v x p q in
     let h = same p (omega arith) in
-    same-test (eqb (getD ws p 0) (getD ws q 0)) (agreeOn v x p q) (λ t. agree .1 (h .1 (equal .0 t))) (λ t. equal .1 (h .0 (agree .0 t))))
+    same-test (eqb (getD ws p 0) (getD ws q 0)) (agreeOn v x p q) (λ t. agree .1 (h .1 (equal .0 t)))
+    (λ t. equal .1 (h .0 (agree .0 t))))
 
 -- and so it is in the view of one member on which rows agree by their numbers
 byNumber : List ℕ → View

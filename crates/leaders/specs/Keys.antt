@@ -1,5 +1,5 @@
--- Keys: numbers laid side by side, one for each member and row, by which rows are compared. Nothing here knows of a catalogue: keys are right for a view
--- if two rows have equal keys on a member exactly if they agree there.
+-- Keys: numbers laid side by side, one for each member and row, by which rows are compared. Nothing here knows of a
+-- catalogue: keys are right for a view if two rows have equal keys on a member exactly if they agree there.
 use Prim.Native.Nat.{ℕ, _+_, _*_, _^_, _≤_, _<_}
 use mathlib.Core.Path.{_≡_}
 use mathlib.Core.List.{List}

@@ -1,5 +1,5 @@
--- The leader of a row on a left side: the lowest row that agrees with it there. Over any view; proofs/Leaders.antt says what leaders tell where
--- agreement is an equivalence.
+-- The leader of a row on a left side: the lowest row that agrees with it there. Over any view; proofs/Leaders.antt
+-- says what leaders tell where agreement is an equivalence.
 use Prim.Native.Nat.{ℕ, zero, suc, _≤_, _<_}
 use mathlib.Core.Path.{_≡_}
 use mathlib.Core.Bool.{Bool}

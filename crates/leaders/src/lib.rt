@@ -1,6 +1,7 @@
-// Not for callers: leaders and keys of rows, as definitions and laws over any view; no function. The leader of a row on a left side is the lowest row that
-// agrees with it there, and the key of a row on a member is its leader on that member alone. Where agreement is an equivalence, two rows agree exactly
-// if their leaders, or their keys, are equal: above the keys nothing looks at codes, missing cells or ancestor rows.
+// Not for callers: leaders and keys of rows, as definitions and laws over any view; no function. The leader of a row
+// on a left side is the lowest row that agrees with it there, and the key of a row on a member is its leader on that
+// member alone. Where agreement is an equivalence, two rows agree exactly if their leaders, or their keys, are equal:
+// above the keys nothing looks at codes, missing cells or ancestor rows.
 // Relies on the definitions of `model` and `table`. Cited by `grouping`, `keys`, `partition`, `search`, `dependency`,
 // `classes`, `lines`, `scan` and `rights`.
 

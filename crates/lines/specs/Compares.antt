@@ -51,7 +51,8 @@ eightOf bytes e q =
     (bitOr
     (bitOr
     (bitOr
-    (bitOr (bitOr (bitOr (added bytes (e .m0) q) (added bytes (e .m1) q)) (added bytes (e .m2) q)) (added bytes (e .m3) q))
+    (bitOr (bitOr (bitOr (added bytes (e .m0) q) (added bytes (e .m1) q)) (added bytes (e .m2) q))
+    (added bytes (e .m3) q))
     (added bytes (e .m4) q))
     (added bytes (e .m5) q))
     (added bytes (e .m6) q))

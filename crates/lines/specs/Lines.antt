@@ -44,10 +44,12 @@ joinedAt weight low high q = word low q + weight * word high q
 abbrev pub withMember : List ℕ → ℕ → ℕ → List ℕ → ℕ → ℕ
 withMember keys k x line q = bitOr (word line q) (pick (eqb (keyAt keys k x) (keyAt keys k q)) (2 ^ k) 0)
 
--- the members on which rows x and q are found to agree once those below m are looked at by keys: by numbers, or by keys where there is no number
+-- the members on which rows x and q are found to agree once those below m are looked at by keys: by numbers, or by
+-- keys where there is no number
 abbrev pub met : List ℕ → List ℕ → ℕ → ℕ → ℕ → ℕ → ℕ → Bool
 met keys bytes few m x q k =
-    pick (eqb (bit few k) 1) (eqb (numberAt bytes k x) (numberAt bytes k q)) (ltb k m && eqb (keyAt keys k x) (keyAt keys k q))
+    pick (eqb (bit few k) 1) (eqb (numberAt bytes k x) (numberAt bytes k q))
+    (ltb k m && eqb (keyAt keys k x) (keyAt keys k q))
 
 abbrev pub metAt : List ℕ → List ℕ → ℕ → ℕ → ℕ → ℕ → ℕ
 metAt keys bytes few m x q = setBelow lineMembers (met keys bytes few m x q)

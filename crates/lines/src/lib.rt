@@ -1,6 +1,8 @@
-// Not for callers: the line of one row, its agree sets with the rows after it as 2-byte numbers. Members whose classes are numbered in a byte are compared
-// eight at a time, which the compiler turns into vector compares of bytes (`part`); the others by their keys, one after the other (`wide`).
-// Relies on `classes` for the numbers, on the definitions of `leaders` and `table` for keys and agree sets, and on a law of `filled`. Called by `scan`.
+// Not for callers: the line of one row, its agree sets with the rows after it as 2-byte numbers. Members whose
+// classes are numbered in a byte are compared eight at a time, which the compiler turns into vector compares of bytes
+// (`part`); the others by their keys, one after the other (`wide`).
+// Relies on `classes` for the numbers, on the definitions of `leaders` and `table` for keys and agree sets, and on a
+// law of `filled`. Called by `scan`.
 mod part;
 mod wide;
 
@@ -20,7 +22,8 @@ use leaders::SIZE;
 use part::numbered_line;
 use wide::add_wide;
 
-// The agree sets of row x with the rows after it, by all n members. The line and its two parts may hold anything before.
+// The agree sets of row x with the rows after it, by all n members. The line and its two parts may hold anything
+// before.
 pub fn line_of(
     keys: &[u16; SIZE],
     bytes: &[u8; BYTES],

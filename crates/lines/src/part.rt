@@ -15,7 +15,8 @@ use classes::BYTES;
 use classes::STRIDE;
 use leaders::ROWS;
 
-// What a row is compared by on one member: where the member's numbers stand, the row's own number, and the member's bit, or 0 where it counts for nothing.
+// What a row is compared by on one member: where the member's numbers stand, the row's own number, and the member's
+// bit, or 0 where it counts for nothing.
 pub struct Comparand {
     pub at: usize,
     pub own: u8,
@@ -44,7 +45,8 @@ fn same(x: u8, y: u8, w: u8) -> u8
     0
 }
 
-// What row x is compared by on member v + j. The bit is a product and not chosen by a test, which the compiler would carry into the loop over rows.
+// What row x is compared by on member v + j. The bit is a product and not chosen by a test, which the compiler would
+// carry into the loop over rows.
 fn comparand_of(bytes: &[u8; BYTES], few: u32, x: usize, v: u32, j: u32) -> Comparand
     requires { ⌜ (x < rowBound) × (v + j < columnBound) × (j < 8) ⌝ }
     ensures { λ r. ⌜ Compares (now (bytes .entry)) few x v j r ⌝ }

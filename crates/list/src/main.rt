@@ -1,6 +1,6 @@
 // Lists a catalogue: reads it from standard input and prints its whole listing, or why it has none.
-// Relies on `pages` for the text and on `text` for writing it. The text is `answerText` of `model`: `print` writes it page by page, and only
-// reading and writing are beyond its contract.
+// Relies on `pages` for the text and on `text` for writing it. The text is `answerText` of `model`: `print` writes it
+// page by page, and only reading and writing are beyond its contract.
 ghost use mathlib.Core.Path.{_≡_};
 ghost use lib.ListN.{length};
 ghost use Rattle.model.specs.Text.{answerText};

@@ -166,9 +166,11 @@ passes-nothing {A} cs code s z p d o = (
 last11 : (s : Seen Entry) → s .place ≡ 10 → workBound ≤ length (s .work) → ListMeaning album s
     → (s .reply ≡ answered (10 ∷ 0 ∷ 0 ∷ [])) × (s .runThen ≡ s .run)
 last11 s p w o =
-    passes-nothing (cells (ordinary album)) (listCode album (s .place) (s .budget) (length (s .run)) (length (s .work))) s
-    (after-none (checkCode album) album-accepted (cells (ordinary album)) (s .place) (s .budget) (length (s .run)) (length (s .work))
-    ∙ no-ground (cells (ordinary album)) (s .place) (s .budget) (length (s .run)) (length (s .work)) (p ∙ sym album-places) none w)
+    passes-nothing (cells (ordinary album)) (listCode album (s .place) (s .budget) (length (s .run)) (length (s .work)))
+    s
+    (after-none (checkCode album) album-accepted (cells (ordinary album)) (s .place) (s .budget) (length (s .run))
+    (length (s .work)) ∙ no-ground (cells (ordinary album)) (s .place) (s .budget) (length (s .run))
+    (length (s .work)) (p ∙ sym album-places) none w)
     p none o
   where
     none : drop (s .place) (cells (ordinary album)) ≡ []

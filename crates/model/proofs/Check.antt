@@ -1,5 +1,5 @@
--- What an accepted catalogue satisfies: each line of the table of refusals 1 to 7, read off the check. Every law here is for bytes with
--- `Accepted cat`, and a table t of them.
+-- What an accepted catalogue satisfies: each line of the table of refusals 1 to 7, read off the check. Every law here
+-- is for bytes with `Accepted cat`, and a table t of them.
 use Prim.Native.Nat.{ℕ, _+_, _-_, _*_, _≤_, _<_}
 use mathlib.Core.Path.{_≡_, sym, subst, _∙_}
 use mathlib.Core.List.{List}
@@ -12,9 +12,11 @@ use Rattle.columns.proofs.Test.{ifEq-yes, ifEq-no, ifLt-no}
 use Rattle.model.specs.Bounds.{tableBound, rowBound, smallestFile, noParent}
 use Rattle.model.specs.Refusal.{number, orElse, firstOf}
 use Rattle.model.specs.Catalogue.{tables, trailer, tableAt, columns, parent, rows, parentRow, tableEnd, visible}
-use Rattle.model.specs.Check.{Accepted, checkCode, sizeCode, trailerCode, startOf, headCode, boundCode, parentCode, widthCode, extentCode, rowCode, tableCode, leftCode}
+use Rattle.model.specs.Check.{Accepted, checkCode, sizeCode, trailerCode, startOf, headCode, boundCode}
+use Rattle.model.specs.Check.{parentCode, widthCode, extentCode, rowCode, tableCode, leftCode}
 use Rattle.model.specs.declared.Refusal.the-variants.{BadTrailer, BadExtent, TableTooLarge}
-use Rattle.model.proofs.Grounds.{orElse-left, orElse-right, firstOf-each, ifEq-passes, ifEq-fails, ifLt-passes, ifLt-fails, ifLe-passes}
+use Rattle.model.proofs.Grounds.{orElse-left, orElse-right, firstOf-each, ifEq-passes, ifEq-fails, ifLt-passes}
+use Rattle.model.proofs.Grounds.{ifLt-fails, ifLe-passes}
 
 module _ (cat : List ℕ) (ok : Accepted cat) where
   -- the steps of the check
@@ -77,7 +79,8 @@ module _ (cat : List ℕ) (ok : Accepted cat) where
     no-head = orElse-left _ _ no-table
 
     after-head : orElse (boundCode cat t)
-        (orElse (parentCode cat t) (orElse (widthCode cat t) (orElse (extentCode cat t) (firstOf (rows cat t) 0 (rowCode cat t))))) ≡ 0
+        (orElse (parentCode cat t)
+        (orElse (widthCode cat t) (orElse (extentCode cat t) (firstOf (rows cat t) 0 (rowCode cat t))))) ≡ 0
     unfolding tableCode
     after-head = orElse-right _ _ no-table
 

@@ -1,6 +1,7 @@
--- Demand 3 for every listing within the bounds: about every list of calls as seen, each handed the place held and each as the contract of a
--- call on the listing says, where no ground comes before the call's own. Its hypothesis can be met, and the last place is reached. The
--- ordinary listing of an accepted catalogue is the instance at the end, with nothing left abstract.
+-- Demand 3 for every listing within the bounds: about every list of calls as seen, each handed the place held and
+-- each as the contract of a call on the listing says, where no ground comes before the call's own. Its hypothesis can
+-- be met, and the last place is reached. The ordinary listing of an accepted catalogue is the instance at the end,
+-- with nothing left abstract.
 use Prim.Native.Nat.{ℕ}
 use mathlib.Core.Path.{_≡_, sym, subst}
 use mathlib.Core.Logic.{_↔_}
@@ -28,7 +29,8 @@ unfolding codeAfter orElse
 after-none before none cs p g r w = ifEq-yes _ none
 
 -- and where there is no ground, none comes before
-pub none-before : {A : Type 0} (before : ℕ) (cs : List (List A)) (p g r w : ℕ) → codeAfter before cs p g r w ≡ 0 → before ≡ 0
+pub none-before : {A : Type 0} (before : ℕ) (cs : List (List A)) (p g r w : ℕ) → codeAfter before cs p g r w ≡ 0
+    → before ≡ 0
 unfolding codeAfter
 none-before before cs p g r w e = orElse-left before _ e
 
@@ -71,14 +73,16 @@ module _ (before : ℕ) (none : before ≡ 0) (l : Listing) where
       (ss, c .linked, every-map means ss (c .obey), e)
 
   -- and the last place is reached
-  pub last-reached : (ss : List (Seen Entry)) × Linked 0 ss × Every (CallMeaning before l) ss × (placeHeld 0 ss ≡ length (cells l))
+  pub last-reached : (ss : List (Seen Entry)) × Linked 0 ss × Every (CallMeaning before l) ss
+      × (placeHeld 0 ss ≡ length (cells l))
   last-reached =
       let (ss, c, e) = reached (cells l) in
       (ss, c .linked, every-map means ss (c .obey), e)
 
 -- the ordinary listing of an accepted catalogue
 module _ (cat : List ℕ) (ok : Accepted cat) where
-  pub ordinary-complete : (ss : List (Seen Entry)) → Linked 0 ss → Every (ListMeaning cat) ss → Complete (ordinary cat) ss
+  pub ordinary-complete : (ss : List (Seen Entry)) → Linked 0 ss → Every (ListMeaning cat) ss
+      → Complete (ordinary cat) ss
   ordinary-complete = complete (checkCode cat) ok (ordinary cat) (ordinary-bounded cat ok)
 
   pub ordinary-calls-exist : (inputs : List (Input Entry))

@@ -1,4 +1,5 @@
--- For proofs by computation on a file's bytes: `unfolding computes` opens every definition that such a proof computes with.
+-- For proofs by computation on a file's bytes: `unfolding computes` opens every definition that such a proof computes
+-- with.
 use lib.Count.{ones, onesIn}
 use Rattle.columns.specs.Test.{ifEq, ifLt, ifLe}
 use Rattle.columns.specs.Set.{withoutOf}
@@ -6,8 +7,10 @@ use Rattle.columns.specs.Order.{inOrder, bySizeFrom, ofSize, ofSizeFrom}
 use Rattle.model.specs.Bytes.{u16At, u32At, bytes2, bytes4}
 use Rattle.model.specs.Refusal.{orElse, firstOf}
 use Rattle.model.specs.Reply.{replyOf, wordsAfter}
-use Rattle.model.specs.Catalogue.{tables, trailer, tableAt, columns, parent, rows, rowAt, parentRow, cell, tableEnd, visible, visibleIn, inherited, sets, setsFrom}
-use Rattle.model.specs.Check.{checkCode, checkMeaning, sizeCode, trailerCode, startOf, headCode, boundCode, parentCode, widthCode, extentCode, rowCode, tableCode, leftCode}
+use Rattle.model.specs.Catalogue.{tables, trailer, tableAt, columns, parent, rows, rowAt, parentRow, cell}
+use Rattle.model.specs.Catalogue.{tableEnd, visible, visibleIn, inherited, sets, setsFrom}
+use Rattle.model.specs.Check.{checkCode, checkMeaning, sizeCode, trailerCode, startOf, headCode, boundCode}
+use Rattle.model.specs.Check.{parentCode, widthCode, extentCode, rowCode, tableCode, leftCode}
 use Rattle.model.specs.View.{holds, minimal, allBelow, agreeOn}
 use Rattle.model.specs.Target.{owner, ownerIn, ancestor, ancestorIn, cellsAgree, agreeAt}
 use Rattle.model.specs.Listing.{rightsOf, cells, cellsFrom, cellsOf, entriesOf}
@@ -15,7 +18,11 @@ use Rattle.model.specs.Listed.{listed}
 use Rattle.model.specs.Rights.{rightAt, rightsFrom, rightsIn}
 use Rattle.model.specs.Encode.{headOf, codesOf, rowOf, trailerOf}
 use Rattle.model.specs.Album.{album, noRows, oneMissing, bothMissing, equalRows}
-use Rattle.model.specs.Damaged.{groundsFrom, notZero, grounds, cut, noTable, children, offsetsFrom, manyTables, longTrailer, lateTable, shortHead, shortRow, leftByte, manyColumns, rowsOnly, manyRows, rootedRoot, ownParent, tooWide, rootedRow, unknownParentRow, smallest, mostColumns, mostRows, widest, lateAndLarge, largeAndRooted, ownParentAndWide, wideAndLong, longAndRooted, rowThenTable, rowThenByte}
+use Rattle.model.specs.Damaged.{groundsFrom, notZero, grounds, cut, noTable, children, offsetsFrom, manyTables}
+use Rattle.model.specs.Damaged.{longTrailer, lateTable, shortHead, shortRow, leftByte, manyColumns, rowsOnly}
+use Rattle.model.specs.Damaged.{manyRows, rootedRoot, ownParent, tooWide, rootedRow, unknownParentRow, smallest}
+use Rattle.model.specs.Damaged.{mostColumns, mostRows, widest, lateAndLarge, largeAndRooted, ownParentAndWide}
+use Rattle.model.specs.Damaged.{wideAndLong, longAndRooted, rowThenTable, rowThenByte}
 use Rattle.model.specs.Line.{inLine, forked, below, offsetsBy12, deepest}
 use Rattle.columns.specs.Set.{memberOf}
 use Rattle.model.specs.Question.{targetCode, leftSideCode, rightSideCode, sidesCode, wordsCode, questionCode}
@@ -29,8 +36,22 @@ use Rattle.model.specs.Packing.{packed, outputCode, packCode, packMeanin
 use Rattle.model.specs.Reading.{countIn, distanceIn, entriesHeld, frontOf, tailCode, readCode, openMeaning}
 use Rattle.model.specs.Reading.{entriesRead, frontRead, readFrom, readMeaning, runRead, readAt}
 use Rattle.model.specs.RefusedCalls.{emptyList, lostEntry}
-use Rattle.model.specs.Text.{answerText, listingText, headLine, refusedLine, linesOf, entryLine, entryText, rightText, decimal, decimalIn}
+use Rattle.model.specs.Text.{answerText, listingText, headLine, refusedLine, linesOf, entryLine, entryText}
+use Rattle.model.specs.Text.{rightText, decimal, decimalIn}
 
 unfoldable pub computes : Unit {0}
-unfolding ones onesIn ifEq ifLt ifLe withoutOf inOrder bySizeFrom ofSize ofSizeFrom u16At u32At bytes2 bytes4 orElse firstOf replyOf wordsAfter tables trailer tableAt columns parent rows rowAt parentRow cell tableEnd visible visibleIn inherited sets setsFrom checkCode checkMeaning sizeCode trailerCode startOf headCode boundCode parentCode widthCode extentCode rowCode tableCode leftCode holds minimal allBelow agreeOn owner ownerIn ancestor ancestorIn cellsAgree agreeAt listed rightAt rightsFrom rightsIn rightsOf cells cellsFrom cellsOf entriesOf headOf codesOf rowOf trailerOf album noRows oneMissing bothMissing equalRows groundsFrom notZero grounds cut noTable children offsetsFrom manyTables longTrailer lateTable shortHead shortRow leftByte manyColumns rowsOnly manyRows rootedRoot ownParent tooWide rootedRow unknownParentRow smallest mostColumns mostRows widest lateAndLarge largeAndRooted ownParentAndWide wideAndLong longAndRooted rowThenTable rowThenByte inLine forked below offsetsBy12 deepest memberOf targetCode leftSideCode rightSideCode sidesCode wordsCode questionCode askMeaning passed written placeCode roomCode callCode runAfter workAfter codeAfter earlier tailCode bytesOf entryAt countIn distanceIn entriesBytes packed entriesFrom entriesHeld frontOf entryCode laterCode restCode entriesCode outputCode packCode packMeaning outputAfter readCode openMeaning entriesRead frontRead readFrom readMeaning runRead readAt emptyList lostEntry answerText listingText headLine refusedLine linesOf entryLine entryText rightText decimal decimalIn
+unfolding ones onesIn ifEq ifLt ifLe withoutOf inOrder bySizeFrom ofSize ofSizeFrom u16At u32At bytes2 bytes4 orElse
+    firstOf replyOf wordsAfter tables trailer tableAt columns parent rows rowAt parentRow cell tableEnd visible
+    visibleIn inherited sets setsFrom checkCode checkMeaning sizeCode trailerCode startOf headCode boundCode parentCode
+    widthCode extentCode rowCode tableCode leftCode holds minimal allBelow agreeOn owner ownerIn ancestor ancestorIn
+    cellsAgree agreeAt listed rightAt rightsFrom rightsIn rightsOf cells cellsFrom cellsOf entriesOf headOf codesOf
+    rowOf trailerOf album noRows oneMissing bothMissing equalRows groundsFrom notZero grounds cut noTable children
+    offsetsFrom manyTables longTrailer lateTable shortHead shortRow leftByte manyColumns rowsOnly manyRows rootedRoot
+    ownParent tooWide rootedRow unknownParentRow smallest mostColumns mostRows widest lateAndLarge largeAndRooted
+    ownParentAndWide wideAndLong longAndRooted rowThenTable rowThenByte inLine forked below offsetsBy12 deepest memberOf
+    targetCode leftSideCode rightSideCode sidesCode wordsCode questionCode askMeaning passed written placeCode roomCode
+    callCode runAfter workAfter codeAfter earlier tailCode bytesOf entryAt countIn distanceIn entriesBytes packed
+    entriesFrom entriesHeld frontOf entryCode laterCode restCode entriesCode outputCode packCode packMeaning outputAfter
+    readCode openMeaning entriesRead frontRead readFrom readMeaning runRead readAt emptyList lostEntry answerText
+    listingText headLine refusedLine linesOf entryLine entryText rightText decimal decimalIn
 computes = tt

@@ -1,4 +1,5 @@
--- The damaged catalogues are refused with their numbers, and have no other grounds than stated: by computation on the bytes.
+-- The damaged catalogues are refused with their numbers, and have no other grounds than stated: by computation on the
+-- bytes.
 use Prim.Native.Nat.{ℕ, zero, suc, _+_, _-_, _*_, _≤_, _<_}
 use mathlib.Core.Path.{_≡_, refl, sym, ap, _∙_}
 use mathlib.Core.List.{List, [], _∷_, _++_}
@@ -12,15 +13,18 @@ use Rattle.model.specs.Bounds.{rowBound, noParent}
 use Rattle.model.specs.Bytes.{byteAt, u16At, u32At, bytes2, bytes4}
 use Rattle.model.specs.Refusal.{number, orElse, firstOf}
 use Rattle.model.specs.declared.Refusal.the-variants.{BadParentRow}
-use Rattle.model.specs.Catalogue.{tables, trailer, tableAt, columns, parent, rows, rowAt, parentRow, tableEnd, visible, visibleIn}
-use Rattle.model.specs.Check.{Accepted, checkCode, tableCode, startOf, sizeCode, trailerCode, headCode, boundCode, parentCode, widthCode, extentCode, rowCode, leftCode}
+use Rattle.model.specs.Catalogue.{tables, trailer, tableAt, columns, parent, rows, rowAt, parentRow, tableEnd}
+use Rattle.model.specs.Catalogue.{visible, visibleIn}
+use Rattle.model.specs.Check.{Accepted, checkCode, tableCode, startOf, sizeCode, trailerCode, headCode, boundCode}
+use Rattle.model.specs.Check.{parentCode, widthCode, extentCode, rowCode, leftCode}
 use Rattle.model.specs.Encode.{headOf, codesOf, trailerOf}
-use Rattle.model.specs.Damaged.{Damages, Only, groundsFrom, notZero, grounds, rowsOnly, manyRows, mostRows, AtTheBounds, DamageOrder}
+use Rattle.model.specs.Damaged.{Damages, Only, groundsFrom, notZero, grounds, rowsOnly, manyRows, mostRows}
+use Rattle.model.specs.Damaged.{AtTheBounds, DamageOrder}
 use Rattle.model.proofs.Grounds.{orElse-none, firstOf-none}
 use Rattle.model.proofs.Computes.{computes}
 
--- 4,096 rows are too many to compute with: what stands in the first 6 bytes and in the trailer is looked up past the rows, and each row has two
--- bytes 255, so its parent row is what it must be
+-- 4,096 rows are too many to compute with: what stands in the first 6 bytes and in the trailer is looked up past the
+-- rows, and each row has two bytes 255, so its parent row is what it must be
 full : (m n : ℕ) (rest : List ℕ) → n < m → getD (replicate m 255 ++ rest) n 0 ≡ 255
 full zero n rest l = absurd (omega arith)
 full (suc m) zero rest l = refl
@@ -31,8 +35,8 @@ u16-is : (cat : List ℕ) (i w x : ℕ) → byteAt cat i ≡ w → byteAt cat (i
 unfolding u16At
 u16-is cat i w x e f = omega arith
 
-u32-is : (cat : List ℕ) (i w x y z : ℕ) → byteAt cat i ≡ w → byteAt cat (i + 1) ≡ x → byteAt cat (i + 2) ≡ y → byteAt cat (i + 3) ≡ z
-    → u32At cat i ≡ w + 256 * x + 65536 * y + 16777216 * z
+u32-is : (cat : List ℕ) (i w x y z : ℕ) → byteAt cat i ≡ w → byteAt cat (i + 1) ≡ x → byteAt cat (i + 2) ≡ y
+    → byteAt cat (i + 3) ≡ z → u32At cat i ≡ w + 256 * x + 65536 * y + 16777216 * z
 unfolding u32At
 u32-is cat i w x y z e f g h = omega arith
 
@@ -64,13 +68,15 @@ module _ (n : ℕ) (short : u16At (bytes2 n) 0 ≡ n) (word : u32At (bytes4 (6 +
   unfolding tables trailerOf codesOf bytes2 bytes4
   one =
       let cat = rowsOnly n in
-      u16-is cat (length cat - 6) 1 0 (ap (byteAt cat) (omega (arith, long)) ∙ trailer-byte 4) (ap (byteAt cat) (omega (arith, long)) ∙ trailer-byte 5)
+      u16-is cat (length cat - 6) 1 0 (ap (byteAt cat) (omega (arith, long)) ∙ trailer-byte 4)
+      (ap (byteAt cat) (omega (arith, long)) ∙ trailer-byte 5)
 
   trailer-at : trailer (rowsOnly n) ≡ 6 + 2 * n
   unfolding trailer u32At trailerOf codesOf bytes2 bytes4
   trailer-at =
       let cat = rowsOnly n in
-      u32-is cat (length cat - 4) _ _ _ _ (ap (byteAt cat) (omega (arith, long)) ∙ trailer-byte 6) (ap (byteAt cat) (omega (arith, long)) ∙ trailer-byte 7)
+      u32-is cat (length cat - 4) _ _ _ _ (ap (byteAt cat) (omega (arith, long)) ∙ trailer-byte 6)
+      (ap (byteAt cat) (omega (arith, long)) ∙ trailer-byte 7)
       (ap (byteAt cat) (omega (arith, long)) ∙ trailer-byte 8) (ap (byteAt cat) (omega (arith, long)) ∙ trailer-byte 9)
       ∙ word
 
@@ -78,23 +84,31 @@ module _ (n : ℕ) (short : u16At (bytes2 n) 0 ≡ n) (word : u32At (bytes4 (6 +
   unfolding tableAt trailerOf codesOf bytes2 bytes4
   at0 =
       let cat = rowsOnly n in
-      u32-is cat (trailer cat + 4 * 0) 0 0 0 0 (ap (byteAt cat) (omega (arith, trailer-at)) ∙ trailer-byte 0) (ap (byteAt cat) (omega (arith, trailer-at)) ∙ trailer-byte 1)
-      (ap (byteAt cat) (omega (arith, trailer-at)) ∙ trailer-byte 2) (ap (byteAt cat) (omega (arith, trailer-at)) ∙ trailer-byte 3)
+      u32-is cat (trailer cat + 4 * 0) 0 0 0 0 (ap (byteAt cat) (omega (arith, trailer-at)) ∙ trailer-byte 0)
+      (ap (byteAt cat) (omega (arith, trailer-at)) ∙ trailer-byte 1)
+      (ap (byteAt cat) (omega (arith, trailer-at)) ∙ trailer-byte 2)
+      (ap (byteAt cat) (omega (arith, trailer-at)) ∙ trailer-byte 3)
 
   byte-at : (i k : ℕ) → i ≡ k → byteAt (rowsOnly n) i ≡ byteAt (rowsOnly n) k
   byte-at i k e = ap (byteAt (rowsOnly n)) e
 
   none : columns (rowsOnly n) 0 ≡ 0
   unfolding columns rowsOnly headOf bytes2
-  none = let cat = rowsOnly n in u16-is cat (tableAt cat 0) 0 0 (byte-at (tableAt cat 0) 0 at0) (byte-at (tableAt cat 0 + 1) 1 (omega (arith, at0)))
+  none = let cat = rowsOnly n in
+      u16-is cat (tableAt cat 0) 0 0 (byte-at (tableAt cat 0) 0 at0)
+      (byte-at (tableAt cat 0 + 1) 1 (omega (arith, at0)))
 
   up : parent (rowsOnly n) 0 ≡ noParent
   unfolding parent rowsOnly headOf bytes2
-  up = let cat = rowsOnly n in u16-is cat (tableAt cat 0 + 2) 255 255 (byte-at (tableAt cat 0 + 2) 2 (omega (arith, at0))) (byte-at (tableAt cat 0 + 2 + 1) 3 (omega (arith, at0)))
+  up = let cat = rowsOnly n in
+      u16-is cat (tableAt cat 0 + 2) 255 255 (byte-at (tableAt cat 0 + 2) 2 (omega (arith, at0)))
+      (byte-at (tableAt cat 0 + 2 + 1) 3 (omega (arith, at0)))
 
   are : rows (rowsOnly n) 0 ≡ n
   unfolding rows rowsOnly headOf bytes2 u16At
-  are = let cat = rowsOnly n in u16-is cat (tableAt cat 0 + 4) _ _ (byte-at (tableAt cat 0 + 4) 4 (omega (arith, at0))) (byte-at (tableAt cat 0 + 4 + 1) 5 (omega (arith, at0))) ∙ short
+  are = let cat = rowsOnly n in
+      u16-is cat (tableAt cat 0 + 4) _ _ (byte-at (tableAt cat 0 + 4) 4 (omega (arith, at0)))
+      (byte-at (tableAt cat 0 + 4 + 1) 5 (omega (arith, at0))) ∙ short
 
   row-at : (k : ℕ) → rowAt (rowsOnly n) 0 k ≡ 6 + 2 * k
   unfolding rowAt
@@ -116,7 +130,8 @@ module _ (n : ℕ) (short : u16At (bytes2 n) 0 ≡ n) (word : u32At (bytes4 (6 +
   unfolding rowCode
   rows-none =
       firstOf-none (rows (rowsOnly n) 0) 0 (rowCode (rowsOnly n) 0)
-      (λ k l. ifEq-yes _ refl ∙ ifEq-yes (number BadParentRow) (ap (parentRow (rowsOnly n) 0) (zero-add k) ∙ parent-is k (omega (arith, are))))
+      (λ k l. ifEq-yes _ refl ∙ ifEq-yes (number BadParentRow)
+      (ap (parentRow (rowsOnly n) 0) (zero-add k) ∙ parent-is k (omega (arith, are))))
 
   size-none : sizeCode (rowsOnly n) ≡ 0
   unfolding sizeCode
@@ -124,7 +139,8 @@ module _ (n : ℕ) (short : u16At (bytes2 n) 0 ≡ n) (word : u32At (bytes4 (6 +
 
   trailer-none : trailerCode (rowsOnly n) ≡ 0
   unfolding trailerCode
-  trailer-none = ifEq-no _ (λ e. omega (arith, one)) ∙ ifLt-no _ (omega (arith, one)) ∙ ifEq-yes _ (omega (arith, one, trailer-at, long))
+  trailer-none = ifEq-no _ (λ e. omega (arith, one)) ∙ ifLt-no _ (omega (arith, one))
+      ∙ ifEq-yes _ (omega (arith, one, trailer-at, long))
 
   head-none : headCode (rowsOnly n) 0 ≡ 0
   unfolding headCode startOf
@@ -158,13 +174,36 @@ module _ (n : ℕ) (short : u16At (bytes2 n) 0 ≡ n) (word : u32At (bytes4 (6 +
   accepted : n ≤ rowBound → Accepted (rowsOnly n)
   unfolding checkCode tableCode firstOf orElse ifEq
   accepted h =
-      rw (size-none, trailer-none, one, head-none, bound-none h, parent-none, width-none, extent-none, rows-none, left-none)
+      rw (
+        size-none,
+        trailer-none,
+        one,
+        head-none,
+        bound-none h,
+        parent-none,
+        width-none,
+        extent-none,
+        rows-none,
+        left-none,
+      )
 
   only-four : rowBound < n → Only (rowsOnly n) 4
   unfolding checkCode tableCode firstOf orElse grounds groundsFrom notZero ifEq
   only-four h = record {
     code = rw (size-none, trailer-none, one, head-none, bound-four h);
-    alone = rw (size-none, trailer-none, one, head-none, bound-four h, parent-none, width-none, extent-none, rows-none, left-none);
+    alone =
+        rw (
+          size-none,
+          trailer-none,
+          one,
+          head-none,
+          bound-four h,
+          parent-none,
+          width-none,
+          extent-none,
+          rows-none,
+          left-none,
+        );
   }
 
 many-rows : Only manyRows 4

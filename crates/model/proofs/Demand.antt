@@ -1,5 +1,5 @@
--- Demand 3, about any cells: a list of calls, each handed the place held and each obeying its contract, joins what stands
--- below the place held.
+-- Demand 3, about any cells: a list of calls, each handed the place held and each obeying its contract, joins what
+-- stands below the place held.
 use Prim.Native.Nat.{ℕ, _+_, _≤_, zero-le}
 use mathlib.Core.Path.{_≡_, refl, sym, ap, _∙_}
 use mathlib.Core.List.{List, [], _∷_, _++_, append-nil, append-assoc}
@@ -10,7 +10,8 @@ use lib.Seq.{take-length}
 use Rattle.model.specs.Refusal.{number}
 use Rattle.model.specs.Reply.{Reply, refused, answered}
 use Rattle.model.specs.Calls.{flat, Seen}
-use Rattle.model.specs.Demand.{held, setsPassed, entryCount, Linked, placeHeld, joined, total, Every, AllObey, Rightly, Demand3}
+use Rattle.model.specs.Demand.{held, setsPassed, entryCount, Linked, placeHeld, joined, total, Every, AllObey}
+use Rattle.model.specs.Demand.{Rightly, Demand3}
 use Rattle.model.specs.declared.Refusal.the-variants.{PastTheEnd}
 use Rattle.model.proofs.Calls.{flat-take-add}
 use Rattle.model.proofs.Rightly.{obeys-rightly}

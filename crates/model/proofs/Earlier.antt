@@ -17,7 +17,8 @@ use Rattle.model.proofs.Truth.{and-is, or-is, eqb-is}
 
 -- one step of a lexicographic order
 pub thenBelow-is : (m n : ℕ) (rest : Bool) → T (thenBelow m n rest) ↔ ((m < n) ⊎ ((m ≡ n) × T rest))
-thenBelow-is m n rest = (λ t. there (or-is (ltb m n) (eqb m n && rest) .0 t), λ h. or-is (ltb m n) (eqb m n && rest) .1 (back h))
+thenBelow-is m n rest =
+    (λ t. there (or-is (ltb m n) (eqb m n && rest) .0 t), λ h. or-is (ltb m n) (eqb m n && rest) .1 (back h))
   where
     there : T (ltb m n) ⊎ T (eqb m n && rest) → (m < n) ⊎ ((m ≡ n) × T rest)
     there (inl l) = inl (ltb→lt m n l)
@@ -62,7 +63,11 @@ earlier-is e f = (
     rest⁻ (inl (inl l)) = inl l
     rest⁻ (inl (inr h)) = inr (h .0, thenBelow-is (e .left) (f .left) rights .1 (inl (h .1)))
     rest⁻ (inr h) =
-        inr (ap sizeOf (h .0), thenBelow-is (e .left) (f .left) rights .1 (inr (h .0, lt→ltb (e .right) (f .right) (h .1))))
+        inr (
+          ap sizeOf (h .0),
+          thenBelow-is (e .left) (f .left) rights .1
+              (inr (h .0, lt→ltb (e .right) (f .right) (h .1))),
+        )
 
     target⁻ : Earlier e f → (e .target < f .target) ⊎ ((e .target ≡ f .target) × T sizes)
     target⁻ (inl l) = inl l
@@ -80,7 +85,8 @@ earlier-transitive e f g (inl l) (inr m) = inl (omega arith)
 earlier-transitive e f g (inr l) (inl m) = inl (omega arith)
 earlier-transitive e f g (inr (t, inl p)) (inr (u, inl q)) =
     inr (t ∙ u, inl (precedes-trans (e .left) (f .left) (g .left) p q))
-earlier-transitive e f g (inr (t, inl p)) (inr (u, inr q)) = inr (t ∙ u, inl (subst (λ (x : ℕ). Precedes (e .left) x) (q .0) p))
+earlier-transitive e f g (inr (t, inl p)) (inr (u, inr q)) =
+    inr (t ∙ u, inl (subst (λ (x : ℕ). Precedes (e .left) x) (q .0) p))
 earlier-transitive e f g (inr (t, inr p)) (inr (u, inl q)) =
     inr (t ∙ u, inl (subst (λ (x : ℕ). Precedes x (g .left)) (sym (p .0)) q))
 earlier-transitive e f g (inr (t, inr p)) (inr (u, inr q)) =

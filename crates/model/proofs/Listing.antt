@@ -1,9 +1,10 @@
--- The full listing: the entries that stand in it are those in its cells, in order, so once, and as many as there are; and how many places
--- it has.
+-- The full listing: the entries that stand in it are those in its cells, in order, so once, and as many as there are;
+-- and how many places it has.
 use Prim.Native.Nat.{ℕ, zero, suc, _+_, _^_, _≤_, _<_}
 use mathlib.Core.Path.{_≡_, refl, sym, ap, ap₂, subst, _∙_}
 use mathlib.Core.Logic.{_⊎_, inl, inr, ⊎-elim, _↔_}
-use mathlib.Core.List.{List, [], _∷_, _++_, append-assoc, List·Memᴰ, List·Memᴰ·head, List·Memᴰ·tail, List·Memᴰ·not-nil, List·Memᴰ·cases-cons, List·Memᴰ·append-cases, Memᴰ·append-left, Memᴰ·append-right}
+use mathlib.Core.List.{List, [], _∷_, _++_, append-assoc, List·Memᴰ, List·Memᴰ·head, List·Memᴰ·tail, List·Memᴰ·not-nil}
+use mathlib.Core.List.{List·Memᴰ·cases-cons, List·Memᴰ·append-cases, Memᴰ·append-left, Memᴰ·append-right}
 use mathlib.Core.Bool.{Bool, true, false}
 use native.Mathlib.Nat.{zero-add, add-zero, suc-add, add-suc}
 use native.Mathlib.Decide.{ℕ-discrete}
@@ -53,14 +54,16 @@ module _ (l : Listing) where
 
       at : (List·Memᴰ e (entriesOf l t x rest) → Is rest) → (b : Bool) → listed (l .view t) x a ≡ b
           → List·Memᴰ e (pick b (entry t x a ∷ entriesOf l t x rest) (entriesOf l t x rest)) → Is (a ∷ rest)
-      at ih true p n = ⊎-elim (here p) (λ (k : List·Memᴰ e (entriesOf l t x rest)). later (ih k)) (List·Memᴰ·cases-cons n)
+      at ih true p n =
+          ⊎-elim (here p) (λ (k : List·Memᴰ e (entriesOf l t x rest)). later (ih k)) (List·Memᴰ·cases-cons n)
       at ih false p n = later (ih n)
 
   entries-mem : (t x : ℕ) (rs : List ℕ) (a : ℕ) → List·Memᴰ a rs → T (listed (l .view t) x a)
       → List·Memᴰ (entry t x a) (entriesOf l t x rs)
   unfolding entriesOf
   entries-mem t x [] a m i = absurd (List·Memᴰ·not-nil m)
-  entries-mem t x (c ∷ rest) a m i = at (λ n. entries-mem t x rest a n i) (listed (l .view t) x c) refl (List·Memᴰ·cases-cons m)
+  entries-mem t x (c ∷ rest) a m i =
+      at (λ n. entries-mem t x rest a n i) (listed (l .view t) x c) refl (List·Memᴰ·cases-cons m)
     where
       at : (List·Memᴰ a rest → List·Memᴰ (entry t x a) (entriesOf l t x rest)) → (b : Bool) → listed (l .view t) x c ≡ b
           → (a ≡ c) ⊎ List·Memᴰ a rest
@@ -72,27 +75,36 @@ module _ (l : Listing) where
 
   -- in the cells of some left sides of a target
   mem-cellsOf : (t : ℕ) (xs : List ℕ) (e : Entry) → List·Memᴰ e (flat (cellsOf l t xs))
-      → (e .target ≡ t) × List·Memᴰ (e .left) xs × List·Memᴰ (e .right) (rightsOf l t) × T (listed (l .view t) (e .left) (e .right))
+      → (e .target ≡ t) × List·Memᴰ (e .left) xs × List·Memᴰ (e .right) (rightsOf l t)
+      × T (listed (l .view t) (e .left) (e .right))
   unfolding cellsOf
   mem-cellsOf t [] e m = absurd (List·Memᴰ·not-nil m)
   mem-cellsOf t (x ∷ xs) e m =
       ⊎-elim (λ (n : List·Memᴰ e (entriesOf l t x (rightsOf l t))). here (mem-entries t x (rightsOf l t) e n))
-      (λ (n : List·Memᴰ e (flat (cellsOf l t xs))). let w = mem-cellsOf t xs e n in (w .0, List·Memᴰ·tail (w .1), w .2, w .3))
+      (λ (n : List·Memᴰ e (flat (cellsOf l t xs))). let w = mem-cellsOf t xs e n in
+      (w .0, List·Memᴰ·tail (w .1), w .2, w .3))
       (List·Memᴰ·append-cases (entriesOf l t x (rightsOf l t)) m)
     where
       here : (e .target ≡ t) × (e .left ≡ x) × List·Memᴰ (e .right) (rightsOf l t) × T (listed (l .view t) x (e .right))
-          → (e .target ≡ t) × List·Memᴰ (e .left) (x ∷ xs) × List·Memᴰ (e .right) (rightsOf l t) × T (listed (l .view t) (e .left) (e .right))
-      here w = (w .0, List·Memᴰ·head (w .1), w .2, subst (λ (y : ℕ). T (listed (l .view t) y (e .right))) (sym (w .1)) (w .3))
+          → (e .target ≡ t) × List·Memᴰ (e .left) (x ∷ xs) × List·Memᴰ (e .right) (rightsOf l t)
+          × T (listed (l .view t) (e .left) (e .right))
+      here w = (
+        w .0,
+        List·Memᴰ·head (w .1),
+        w .2,
+        subst (λ (y : ℕ). T (listed (l .view t) y (e .right))) (sym (w .1)) (w .3),
+      )
 
-  cellsOf-mem : (t : ℕ) (xs : List ℕ) (x a : ℕ) → List·Memᴰ x xs → List·Memᴰ a (rightsOf l t) → T (listed (l .view t) x a)
-      → List·Memᴰ (entry t x a) (flat (cellsOf l t xs))
+  cellsOf-mem : (t : ℕ) (xs : List ℕ) (x a : ℕ) → List·Memᴰ x xs → List·Memᴰ a (rightsOf l t)
+      → T (listed (l .view t) x a) → List·Memᴰ (entry t x a) (flat (cellsOf l t xs))
   unfolding cellsOf
   cellsOf-mem t [] x a m r i = absurd (List·Memᴰ·not-nil m)
   cellsOf-mem t (y ∷ ys) x a m r i =
       ⊎-elim
       (λ (q : x ≡ y).
       Memᴰ·append-left (flat (cellsOf l t ys))
-      (subst (λ (z : ℕ). List·Memᴰ (entry t x a) (entriesOf l t z (rightsOf l t))) q (entries-mem t x (rightsOf l t) a r i)))
+      (subst (λ (z : ℕ). List·Memᴰ (entry t x a) (entriesOf l t z (rightsOf l t))) q
+      (entries-mem t x (rightsOf l t) a r i)))
       (λ (n : List·Memᴰ x ys). Memᴰ·append-right (entriesOf l t y (rightsOf l t)) (cellsOf-mem t ys x a n r i))
       (List·Memᴰ·cases-cons m)
 
@@ -103,15 +115,18 @@ module _ (l : Listing) where
   unfolding cellsFrom
   mem-cellsFrom zero t e m = absurd (List·Memᴰ·not-nil m)
   mem-cellsFrom (suc n) t e m =
-      ⊎-elim (λ (k : List·Memᴰ e (flat (cellsOf l t (inOrder (widthOf l t))))). here (mem-cellsOf t (inOrder (widthOf l t)) e k))
+      ⊎-elim (λ (k : List·Memᴰ e (flat (cellsOf l t (inOrder (widthOf l t))))). here
+      (mem-cellsOf t (inOrder (widthOf l t)) e k))
       (λ (k : List·Memᴰ e (flat (cellsFrom l n (suc t)))).
       let w = mem-cellsFrom n (suc t) e k in
       (omega arith, omega arith, w .2, w .3, w .4))
       (List·Memᴰ·append-cases (flat (cellsOf l t (inOrder (widthOf l t))))
-      (subst (λ (es : List Entry). List·Memᴰ e es) (flat-append (cellsOf l t (inOrder (widthOf l t))) (cellsFrom l n (suc t))) m))
+      (subst (λ (es : List Entry). List·Memᴰ e es)
+      (flat-append (cellsOf l t (inOrder (widthOf l t))) (cellsFrom l n (suc t))) m))
     where
       At : ℕ → Type 0
-      At i = List·Memᴰ (e .left) (inOrder (widthOf l i)) × List·Memᴰ (e .right) (rightsOf l i) × T (listed (l .view i) (e .left) (e .right))
+      At i = List·Memᴰ (e .left) (inOrder (widthOf l i)) × List·Memᴰ (e .right) (rightsOf l i)
+          × T (listed (l .view i) (e .left) (e .right))
 
       here : (e .target ≡ t) × List·Memᴰ (e .left) (inOrder (widthOf l t)) × List·Memᴰ (e .right) (rightsOf l t)
           × T (listed (l .view t) (e .left) (e .right))
@@ -174,7 +189,8 @@ module _ (l : Listing) where
       )
       at ih false = ih
 
-  ordered-cellsOf : (t : ℕ) (xs : List ℕ) → Ascending (rightsOf l t) → lists.Ordered xs → Ordered (flat (cellsOf l t xs))
+  ordered-cellsOf : (t : ℕ) (xs : List ℕ) → Ascending (rightsOf l t) → lists.Ordered xs
+      → Ordered (flat (cellsOf l t xs))
   unfolding cellsOf
   ordered-cellsOf t [] r h = tt
   ordered-cellsOf t (x ∷ xs) r h =
@@ -185,7 +201,8 @@ module _ (l : Listing) where
       let w = mem-cellsOf t xs f n in
       inr (v .0 ∙ sym (w .0), inl (subst (λ (y : ℕ). Precedes y (f .left)) (sym (v .1)) (h .0 (f .left) (w .1)))))
 
-  ordered-cellsFrom : (n t : ℕ) → ((i : ℕ) → t ≤ i → i < t + n → Ascending (rightsOf l i)) → Ordered (flat (cellsFrom l n t))
+  ordered-cellsFrom : (n t : ℕ) → ((i : ℕ) → t ≤ i → i < t + n → Ascending (rightsOf l i))
+      → Ordered (flat (cellsFrom l n t))
   unfolding cellsFrom
   ordered-cellsFrom zero t r = tt
   ordered-cellsFrom (suc n) t r =
@@ -213,7 +230,8 @@ module _ (l : Listing) where
   count-entries t x (a ∷ rest) = at (count-entries t x rest) (listed (l .view t) x a)
     where
       at : length (entriesOf l t x rest) ≡ countRights l t x rest → (b : Bool)
-          → length (pick b (entry t x a ∷ entriesOf l t x rest) (entriesOf l t x rest)) ≡ pick b 1 0 + countRights l t x rest
+          → length (pick b (entry t x a ∷ entriesOf l t x rest) (entriesOf l t x rest))
+          ≡ pick b 1 0 + countRights l t x rest
       at ih true = omega arith
       at ih false = omega arith
 
@@ -240,7 +258,8 @@ module _ (l : Listing) where
   unfolding cellsFrom countTargets
   count-cellsFrom zero t = zero-add (countTargets l t) ∙ ap (countTargets l) (sym (add-zero t))
   count-cellsFrom (suc n) t =
-      let e : countTargets l (suc t + n) ≡ countTargets l (t + suc n) = ap (countTargets l) (suc-add t n ∙ sym (add-suc t n)) in
+      let e : countTargets l (suc t + n) ≡ countTargets l (t + suc n) =
+      ap (countTargets l) (suc-add t n ∙ sym (add-suc t n)) in
       let f : length (flat (cellsFrom l (suc n) t))
       ≡ length (flat (cellsOf l t (inOrder (widthOf l t)))) + length (flat (cellsFrom l n (suc t))) =
       ap length (flat-append (cellsOf l t (inOrder (widthOf l t))) (cellsFrom l n (suc t)))
@@ -250,7 +269,8 @@ module _ (l : Listing) where
   pub full-count : length (flat (cells l)) ≡ countAll l
   unfolding cells countAll countTargets
   full-count =
-      let e : countTargets l (0 + l .targets) ≡ countTargets l (l .targets) = ap (countTargets l) (zero-add (l .targets)) in
+      let e : countTargets l (0 + l .targets) ≡ countTargets l (l .targets) =
+      ap (countTargets l) (zero-add (l .targets)) in
       omega (arith, count-cellsFrom (l .targets) 0)
 
   -- how many places there are

@@ -1,6 +1,6 @@
--- The hypothesis of demand 3 can be met, whatever budgets, runs and work words are handed in: the meaning of a call, as a
--- function, makes such a list. And the last place is reached: by one call, and by every list of enough calls with enough
--- lent to each.
+-- The hypothesis of demand 3 can be met, whatever budgets, runs and work words are handed in: the meaning of a call,
+-- as a function, makes such a list. And the last place is reached: by one call, and by every list of enough calls
+-- with enough lent to each.
 use Prim.Native.Nat.{ℕ, suc, _+_, _≤_, _<_, zero-le}
 use mathlib.Core.Path.{_≡_, refl, sym, ap, _∙_}
 use mathlib.Core.Logic.{⊎-elim}

@@ -34,11 +34,13 @@ pub work-answered : (code : ℕ) (work : List ℕ) → code ≡ 0 → workAfter 
 unfolding workAfter
 work-answered code work e = ifEq-yes _ e
 
-pub work-short : (code : ℕ) (work : List ℕ) → code ≡ number RunTooShort → workAfter code work ≡ replicate (length work) 0
+pub work-short : (code : ℕ) (work : List ℕ) → code ≡ number RunTooShort
+    → workAfter code work ≡ replicate (length work) 0
 unfolding workAfter
 work-short code work e = ifEq-no _ (λ z. omega arith) ∙ ifEq-yes _ e
 
-pub work-kept : (code n : ℕ) (work : List ℕ) → code ≡ n → 0 < n → (n ≡ number RunTooShort → ⊥) → workAfter code work ≡ work
+pub work-kept : (code n : ℕ) (work : List ℕ) → code ≡ n → 0 < n → (n ≡ number RunTooShort → ⊥)
+    → workAfter code work ≡ work
 unfolding workAfter
 work-kept code n work e h o = ifEq-no _ (λ z. omega arith) ∙ ifEq-no _ (λ z. o (sym e ∙ z))
 
@@ -74,7 +76,8 @@ answered-count p k c r e = rw e
 answered-own : {A : Type 0} (c : ℕ) (es run : List A) → c ≡ length es → take c (es ++ run) ≡ es
 answered-own c es run e = rw e (take-append-seam es run)
 
-answered-others : {A : Type 0} (c : ℕ) (es run : List A) → c ≡ length es → drop c (es ++ drop (length es) run) ≡ drop c run
+answered-others : {A : Type 0} (c : ℕ) (es run : List A) → c ≡ length es → drop c (es ++ drop (length es) run)
+    ≡ drop c run
 answered-others c es run e = rw e (drop-append-seam es (drop (length es) run))
 
 -- a refused call

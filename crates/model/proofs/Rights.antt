@@ -1,8 +1,10 @@
--- The right sides that a mask stands for: which they are, that they ascend, and how many. And those of a table: its own columns and the row.
+-- The right sides that a mask stands for: which they are, that they ascend, and how many. And those of a table: its
+-- own columns and the row.
 use Prim.Native.Nat.{ℕ, zero, suc, _+_, _-_, _^_, _≤_, _<_, zero-le}
 use mathlib.Core.Path.{_≡_, refl, sym, ap, subst, _∙_}
 use mathlib.Core.Logic.{_⊎_, inl, inr, ⊎-elim, _↔_}
-use mathlib.Core.List.{List, [], _∷_, List·Memᴰ, List·Memᴰ·head, List·Memᴰ·tail, List·Memᴰ·not-nil, List·Memᴰ·cases-cons}
+use mathlib.Core.List.{List, [], _∷_, List·Memᴰ, List·Memᴰ·head, List·Memᴰ·tail, List·Memᴰ·not-nil}
+use mathlib.Core.List.{List·Memᴰ·cases-cons}
 use mathlib.Core.Bool.{Bool, true, false}
 use native.Mathlib.Decide.{ℕ-discrete, decLt}
 use native.Mathlib.Omega.{arith}
@@ -65,7 +67,8 @@ module _ (n mask : ℕ) where
   mem-from zero k a m = absurd (List·Memᴰ·not-nil m)
   mem-from (suc j) k a m = at (λ r. later (mem-from j (suc k) a r)) (isIn k mask) refl m
     where
-      later : (i : ℕ) × (suc k ≤ i) × (i < suc k + j) × StandsFor i a → (i : ℕ) × (k ≤ i) × (i < k + suc j) × StandsFor i a
+      later : (i : ℕ) × (suc k ≤ i) × (i < suc k + j) × StandsFor i a → (i : ℕ) × (k ≤ i) × (i < k + suc j)
+          × StandsFor i a
       later w =
           let l = w .1 in
           let u = w .2 in
@@ -86,7 +89,8 @@ module _ (n mask : ℕ) where
   from-mem (suc j) k i l u e =
       at (λ h. from-mem j (suc k) i h (omega arith) e) (ℕ-discrete i k) (isIn k mask) refl
     where
-      at : (suc k ≤ i → List·Memᴰ (rightAt n i) (rightsFrom n mask j (suc k))) → Dec (i ≡ k) → (b : Bool) → isIn k mask ≡ b
+      at : (suc k ≤ i → List·Memᴰ (rightAt n i) (rightsFrom n mask j (suc k))) → Dec (i ≡ k) → (b : Bool)
+          → isIn k mask ≡ b
           → List·Memᴰ (rightAt n i) (pick b (rightAt n k ∷ rightsFrom n mask j (suc k)) (rightsFrom n mask j (suc k)))
       at ih (yes q) true p = List·Memᴰ·head (ap (rightAt n) q)
       at ih (yes q) false p =
@@ -180,12 +184,14 @@ module _ (cat : List ℕ) (target : ℕ) where
   pub own-rights-lt : ownRights cat target < 2 ^ suc (visible cat target)
   own-rights-lt = range-lt (visible cat target) (inherited cat target) (inherited-visible cat target)
 
-  pub own-rights-bit : (k : ℕ) → (bit (ownRights cat target) k ≡ 1) ↔ ((inherited cat target ≤ k) × (k ≤ visible cat target))
+  pub own-rights-bit : (k : ℕ) → (bit (ownRights cat target) k ≡ 1)
+      ↔ ((inherited cat target ≤ k) × (k ≤ visible cat target))
   own-rights-bit k = range-bit (visible cat target) (inherited cat target) (inherited-visible cat target) k
 
   -- a right side is an own column, by its visible number, or the row
   pub right-is : (a : ℕ)
-      → List·Memᴰ a (rightsOf (ordinary cat) target) ↔ (((inherited cat target ≤ a) × (a < visible cat target)) ⊎ (a ≡ row))
+      → List·Memᴰ a (rightsOf (ordinary cat) target)
+      ↔ (((inherited cat target ≤ a) × (a < visible cat target)) ⊎ (a ≡ row))
   unfolding rightsOf
   right-is a = (
     λ m. let w = mem-rights n (ownRights cat target) a .0 m in there (w .0) (w .1) (w .2) (ℕ-discrete (w .0) n),
@@ -204,12 +210,14 @@ module _ (cat : List ℕ) (target : ℕ) where
           let q : a ≡ k = w .1 ∙ rightAt-column n k l in
           inl (omega arith, omega arith)
 
-      back : ((inherited cat target ≤ a) × (a < n)) ⊎ (a ≡ row) → (k : ℕ) × (k ≤ n) × StandsFor n (ownRights cat target) k a
+      back : ((inherited cat target ≤ a) × (a < n)) ⊎ (a ≡ row)
+          → (k : ℕ) × (k ≤ n) × StandsFor n (ownRights cat target) k a
       back (inl w) =
           let o = w .0 in
           let u = w .1 in
           (a, omega arith, (own-rights-bit a .1 (o, omega arith), sym (rightAt-column n a u)))
-      back (inr e) = (n, omega arith, (own-rights-bit n .1 (inherited-visible cat target, omega arith), e ∙ sym (rightAt-row n)))
+      back (inr e) =
+          (n, omega arith, (own-rights-bit n .1 (inherited-visible cat target, omega arith), e ∙ sym (rightAt-row n)))
 
 -- the ordinary listing of an accepted catalogue is within the bounds
 pub ordinary-bounded : (cat : List ℕ) → Accepted cat → Bounded (ordinary cat)

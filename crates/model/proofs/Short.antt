@@ -1,5 +1,5 @@
--- How many entries and sets a listing within the bounds has at most: a set has an entry for each column and one for the row, so 17 at most,
--- and a run of 17 records is never too short for the next set.
+-- How many entries and sets a listing within the bounds has at most: a set has an entry for each column and one for
+-- the row, so 17 at most, and a run of 17 records is never too short for the next set.
 use Prim.Native.Nat.{ℕ, zero, suc, _+_, _*_, _^_, _≤_, _<_, zero-le}
 use mathlib.Core.Path.{_≡_, refl, sym, _∙_}
 use mathlib.Core.List.{List, [], _∷_, _++_}
@@ -16,7 +16,8 @@ use Rattle.model.specs.Catalogue.{sets}
 use Rattle.model.specs.Check.{checkCode, Accepted}
 use Rattle.model.specs.Listed.{listed}
 use Rattle.model.specs.Entry.{entry}
-use Rattle.model.specs.Listing.{Listing, widthOf, rightsOf, entriesOf, cellsOf, cellsFrom, cells, Bounded, ordinary}
+use Rattle.model.specs.Listing.{Listing, widthOf, rightsOf, entriesOf, cellsOf, cellsFrom, cells, Bounded}
+use Rattle.model.specs.Listing.{ordinary}
 use Rattle.model.specs.Calls.{flat, roomCode}
 use Rattle.model.specs.List.{listCode}
 use Rattle.model.specs.declared.Refusal.the-variants.{RunTooShort}
@@ -107,7 +108,8 @@ module _ (cat : List ℕ) (ok : Accepted cat) where
       not-short (outcome (cells (ordinary cat)) place budget room words)
       (sym (after-none (checkCode cat) ok (cells (ordinary cat)) place budget room words) ∙ e)
     where
-      not-short : {code : ℕ} → Outcome (cells (ordinary cat)) place budget room words code → code ≡ number RunTooShort → ⊥
+      not-short : {code : ℕ} → Outcome (cells (ordinary cat)) place budget room words code → code ≡ number RunTooShort
+          → ⊥
       not-short (few c w) q = omega arith
       not-short (past c w l) q = omega arith
       not-short (short c w l g r) q = omega (arith, cell-short (ordinary cat) (ordinary-bounded cat ok) place)

@@ -7,7 +7,8 @@ use native.Mathlib.Omega.{arith}
 use lib.ListN.{length, take, drop, length-append, length-drop}
 use Rattle.model.specs.Calls.{flat, passed, written}
 use Rattle.model.specs.Demand.{Stops}
-use Rattle.model.proofs.Calls.{le-or-lt, flat-take-mono, flat-take-le, passed-end, passed-spent, passed-full, passed-fit}
+use Rattle.model.proofs.Calls.{le-or-lt, flat-take-mono, flat-take-le, passed-end, passed-spent, passed-full}
+use Rattle.model.proofs.Calls.{passed-fit}
 
 -- the stop rule from the first cell on
 pub record Halts {A : Type 0} (cs : List (List A)) (budget room k : ℕ) : Type 0 where

@@ -1,4 +1,5 @@
--- A sum over the sets of n columns in listing order is the sum over all numbers below 2^n: the order is those numbers, rearranged.
+-- A sum over the sets of n columns in listing order is the sum over all numbers below 2^n: the order is those
+-- numbers, rearranged.
 use Prim.Native.Nat.{ℕ, zero, suc, _+_, _^_, _≤_, _<_}
 use mathlib.Core.Path.{_≡_, refl, sym, ap, ap₂, _∙_}
 use mathlib.Core.List.{List, [], _∷_, _++_}
@@ -67,7 +68,8 @@ unfolding ofSome ofOne
 some-one f zero k x l u = absurd (omega arith)
 some-one f (suc m) k x l u = at (λ n. some-one f m (suc k) x (omega arith) (omega arith)) (ℕ-discrete (sizeOf x) k)
   where
-    at : ((sizeOf x ≡ k → ⊥) → ofSome f m (suc k) x ≡ f x) → Dec (sizeOf x ≡ k) → ofOne f k x + ofSome f m (suc k) x ≡ f x
+    at : ((sizeOf x ≡ k → ⊥) → ofSome f m (suc k) x ≡ f x) → Dec (sizeOf x ≡ k)
+        → ofOne f k x + ofSome f m (suc k) x ≡ f x
     at ih (yes e) = ap₂ _+_ (ifEq-yes 0 e) (some-none f m (suc k) x (omega arith)) ∙ omega arith
     at ih (no n) = ap₂ _+_ (ifEq-no (f x) n) (ih n) ∙ omega arith
 
@@ -80,7 +82,8 @@ sum-from f k (suc m) x = at (sum-from f k m (suc x)) (ℕ-discrete (sizeOf x) k)
     at : sumOver f (ofSizeFrom k m (suc x)) ≡ sumFrom (ofOne f k) m (suc x) → Dec (sizeOf x ≡ k)
         → sumOver f (ofSizeFrom k (suc m) x) ≡ ofOne f k x + sumFrom (ofOne f k) m (suc x)
     at ih (yes e) = ap (sumOver f) (from-yes k m x e) ∙ ap₂ _+_ (sym (ifEq-yes 0 e)) ih
-    at ih (no n) = ap (sumOver f) (from-no k m x n) ∙ ih ∙ sym (ap (λ v. v + sumFrom (ofOne f k) m (suc x)) (ifEq-no (f x) n) ∙ omega arith)
+    at ih (no n) = ap (sumOver f) (from-no k m x n) ∙ ih
+        ∙ sym (ap (λ v. v + sumFrom (ofOne f k) m (suc x)) (ifEq-no (f x) n) ∙ omega arith)
 
 sum-bySize : (f : ℕ → ℕ) (n m k : ℕ) → sumOver f (bySizeFrom n m k) ≡ sumFrom (ofSome f m k) (2 ^ n) 0
 unfolding bySizeFrom ofSize ofSome

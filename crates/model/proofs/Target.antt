@@ -1,4 +1,5 @@
--- Agreement of a target's rows is an equivalence, for any bytes. A missing cell agrees only with itself, and with itself it does agree.
+-- Agreement of a target's rows is an equivalence, for any bytes. A missing cell agrees only with itself, and with
+-- itself it does agree.
 use Prim.Native.Nat.{ℕ, _-_}
 use mathlib.Core.Path.{_≡_, refl, sym, ap, _∙_}
 use mathlib.Core.Logic.{_⊎_, inl, inr}

@@ -1,8 +1,10 @@
--- Laws of the text that the listing program prints: how long it is at most, that lines go one behind the other, and the album's.
+-- Laws of the text that the listing program prints: how long it is at most, that lines go one behind the other, and
+-- the album's.
 use Prim.Native.Nat.{ℕ, zero, suc, _+_, _-_, _*_, _/_, _%_, _^_, _≤_, _<_, zero-le}
 use mathlib.Core.Path.{_≡_, refl, sym, ap, subst, _∙_}
 use mathlib.Core.Logic.{_⊎_, inl, inr, ⊎-elim}
-use mathlib.Core.List.{List, [], _∷_, _++_, append-assoc, List·Memᴰ, List·Memᴰ·head, List·Memᴰ·tail, Memᴰ·append-left, Memᴰ·append-right}
+use mathlib.Core.List.{List, [], _∷_, _++_, append-assoc, List·Memᴰ, List·Memᴰ·head, List·Memᴰ·tail, Memᴰ·append-left}
+use mathlib.Core.List.{Memᴰ·append-right}
 use native.Mathlib.Nat.{pow-suc}
 use native.Mathlib.Omega.{arith}
 use lib.ListN.{length, take, drop, length-append, take-append-drop}
@@ -16,7 +18,8 @@ use Rattle.model.specs.Check.{Accepted}
 use Rattle.model.specs.Listing.{cells, ordinary, Stands}
 use Rattle.model.specs.Calls.{flat}
 use Rattle.model.specs.Album.{album, albumLines}
-use Rattle.model.specs.Text.{decimal, decimalIn, rowWord, rightText, entryText, entryLine, linesOf, headLine, refusedLine, listingText, answerText}
+use Rattle.model.specs.Text.{decimal, decimalIn, rowWord, rightText, entryText, entryLine, linesOf, headLine}
+use Rattle.model.specs.Text.{refusedLine, listingText, answerText}
 use Rattle.model.specs.declared.Entry.{Entry}
 use Rattle.model.proofs.Check.{accepted-tables, accepted-visible}
 use Rattle.model.proofs.Rights.{right-is}
@@ -34,8 +37,8 @@ decimal-in-short (suc fuel) k n h = ⊎-elim (more (λ j. decimal-in-short fuel 
     one : n < 10 → length (decimalIn (suc fuel) n) ≤ suc k
     one l = rw (ifLt-yes (decimalIn fuel (n / 10) ++ ((48 + n % 10) ∷ [])) l) (omega arith)
 
-    more : ((j : ℕ) → n / 10 < 10 ^ suc j → length (decimalIn fuel (n / 10)) ≤ suc j) → (j : ℕ) → n < 10 ^ suc j → 10 ≤ n
-        → length (decimalIn (suc fuel) n) ≤ suc j
+    more : ((j : ℕ) → n / 10 < 10 ^ suc j → length (decimalIn fuel (n / 10)) ≤ suc j) → (j : ℕ) → n < 10 ^ suc j
+        → 10 ≤ n → length (decimalIn (suc fuel) n) ≤ suc j
     more ih zero g l = absurd (omega arith)
     more ih (suc j) g l =
         let p : 10 ^ suc (suc j) ≡ 10 ^ suc j * 10 = pow-suc 10 (suc j) in
@@ -51,20 +54,28 @@ pub lines-append : (es fs : List Entry) → linesOf (es ++ fs) ≡ linesOf es ++
 unfolding linesOf
 lines-append [] fs = refl
 lines-append (e ∷ es) fs =
-    ap (λ (l : List ℕ). entryLine e ++ l) (lines-append es fs) ∙ sym (append-assoc (entryLine e) (linesOf es) (linesOf fs))
+    ap (λ (l : List ℕ). entryLine e ++ l) (lines-append es fs)
+    ∙ sym (append-assoc (entryLine e) (linesOf es) (linesOf fs))
 
--- a line has 13 bytes at most where each number is in its bound: 2 for the target, 5 for the left side, 3 for the right side
+-- a line has 13 bytes at most where each number is in its bound: 2 for the target, 5 for the left side, 3 for the
+-- right side
 right-short : (a : ℕ) → (a < columnBound) ⊎ (a ≡ row) → length (rightText a) ≤ 3
 unfolding rightText
-right-short a (inl h) = rw (ifEq-no rowWord (λ (e : a ≡ row). omega arith)) (omega (arith, decimal-short 1 a (omega arith)))
+right-short a (inl h) =
+    rw (ifEq-no rowWord (λ (e : a ≡ row). omega arith)) (omega (arith, decimal-short 1 a (omega arith)))
 right-short a (inr e) = rw (ifEq-yes (decimal a) e) (omega arith)
 
-line-short : (e : Entry) → e .target < tableBound → e .left < 2 ^ columnBound → (e .right < columnBound) ⊎ (e .right ≡ row)
-    → length (entryLine e) ≤ 13
+line-short : (e : Entry) → e .target < tableBound → e .left < 2 ^ columnBound → (e .right < columnBound)
+    ⊎ (e .right ≡ row) → length (entryLine e) ≤ 13
 unfolding entryLine entryText
 line-short e t x r =
     simp length-append
-    (omega (arith, decimal-short 1 (e .target) (omega arith), decimal-short 4 (e .left) (omega arith), right-short (e .right) r))
+    (omega (
+      arith,
+      decimal-short 1 (e .target) (omega arith),
+      decimal-short 4 (e .left) (omega arith),
+      right-short (e .right) r,
+    ))
 
 -- each line of a run is that short
 lines-short-each : (es : List Entry) → ((e : Entry) → List·Memᴰ e es → length (entryLine e) ≤ 13)
@@ -146,10 +157,12 @@ module _ (cat : List ℕ) (ok : Accepted cat) where
             (linesOf (flat (cells (ordinary cat)))),
       )
 
--- what the first bytes of a longer input say is what all of it says, so a program need not read more than one byte past the bound
+-- what the first bytes of a longer input say is what all of it says, so a program need not read more than one byte
+-- past the bound
 pub bytes-enough : (cat : List ℕ) → answerText (take (suc fileBound) cat) ≡ answerText cat
 unfolding answerText
-bytes-enough cat = ⊎-elim (λ h. ap answerText (take-all (suc fileBound) cat h)) long (le-or-lt (length cat) (suc fileBound))
+bytes-enough cat =
+    ⊎-elim (λ h. ap answerText (take-all (suc fileBound) cat h)) long (le-or-lt (length cat) (suc fileBound))
   where
     long : suc fileBound < length cat → answerText (take (suc fileBound) cat) ≡ answerText cat
     long h =

@@ -1,5 +1,5 @@
--- Laws of tests: what a test of a conjunction, a disjunction, a negation and an implication says, and the two ways to write that a test
--- passes or fails.
+-- Laws of tests: what a test of a conjunction, a disjunction, a negation and an implication says, and the two ways to
+-- write that a test passes or fails.
 use Prim.Native.Nat.{ℕ, zero, suc, _<_}
 use mathlib.Core.Path.{_≡_, refl, sym, subst}
 use mathlib.Core.Logic.{_⊎_, inl, inr, _↔_}
@@ -63,7 +63,8 @@ allBelow-is (suc n) f = (
   λ h. and-is (f n) (allBelow n f) .1 (h n (omega arith), allBelow-is n f .1 (λ k l. h k (omega arith))),
 )
   where
-    at : (k : ℕ) → T (f n) × T (allBelow n f) → (T (allBelow n f) → (j : ℕ) → j < n → T (f j)) → (k ≡ n) ⊎ (k < n) → T (f k)
+    at : (k : ℕ) → T (f n) × T (allBelow n f) → (T (allBelow n f) → (j : ℕ) → j < n → T (f j)) → (k ≡ n) ⊎ (k < n)
+        → T (f k)
     at k t below (inl e) = subst (λ (j : ℕ). T (f j)) (sym e) (t .0)
     at k t below (inr l) = below (t .1) k l
 

@@ -1,5 +1,5 @@
--- Agreement, dependency, key and minimal: the tests of specs/View.antt say what the propositions say, and the laws that every engine over
--- them needs. For any view; some ask that agreement is an equivalence.
+-- Agreement, dependency, key and minimal: the tests of specs/View.antt say what the propositions say, and the laws
+-- that every engine over them needs. For any view; some ask that agreement is an equivalence.
 use Prim.Native.Nat.{ℕ, _<_}
 use mathlib.Core.Path.{_≡_, refl, sym, subst, _∙_}
 use mathlib.Core.Logic.{_⊎_, inl, inr, _↔_}
@@ -11,8 +11,10 @@ use Rattle.columns.specs.Set.{bit, withoutOf}
 use Rattle.columns.specs.Test.{pick}
 use Rattle.columns.proofs.Bits.{bit-without-same, bit-without-other}
 use Rattle.model.specs.Bounds.{row}
-use Rattle.model.specs.View.{View, Equivalence, In, isIn, Within, AgreeOn, agreeOn, agreeRight, Holds, holds, Breaks, Minimal, Least, minimal, allBelow}
-use Rattle.model.proofs.Truth.{is-true, true-is, is-false, false-is, decided, and-is, or-is, not-is, implies-is, eqb-is, allBelow-is, one-fails}
+use Rattle.model.specs.View.{View, Equivalence, In, isIn, Within, AgreeOn, agreeOn, agreeRight, Holds, holds}
+use Rattle.model.specs.View.{Breaks, Minimal, Least, minimal, allBelow}
+use Rattle.model.proofs.Truth.{is-true, true-is, is-false, false-is, decided, and-is, or-is, not-is, implies-is}
+use Rattle.model.proofs.Truth.{eqb-is, allBelow-is, one-fails}
 
 -- the tests say what the propositions say
 pub isIn-is : (k x : ℕ) → T (isIn k x) ↔ In k x
@@ -38,7 +40,8 @@ holds-is v x a = (
       (agreeOn-is v x p q .1 agree),
   λ h. allBelow-is (v .rows) (λ r. allBelow (v .rows) (test r)) .1
       (λ p lp. allBelow-is (v .rows) (test p) .1
-      (λ q lq. implies-is (agreeOn v x p q) (agreeRight v a p q) .1 (λ agree. h p q lp lq (agreeOn-is v x p q .0 agree)))),
+      (λ q lq. implies-is (agreeOn v x p q) (agreeRight v a p q) .1
+      (λ agree. h p q lp lq (agreeOn-is v x p q .0 agree)))),
 )
   where
     test : ℕ → ℕ → Bool
@@ -55,7 +58,8 @@ minimal-is v x a = (
         outside = λ i. not-is (isIn a x) .0 (r .0) (isIn-is a x .1 i);
         spare = λ k l i less.
             not-is (holds v (withoutOf x k) a) .0
-            (implies-is (isIn k x) (not (holds v (withoutOf x k) a)) .0 (allBelow-is (v .members) test .0 (r .1) k l) (isIn-is k x .1 i))
+            (implies-is (isIn k x) (not (holds v (withoutOf x k) a)) .0 (allBelow-is (v .members) test .0 (r .1) k l)
+            (isIn-is k x .1 i))
             (holds-is v (withoutOf x k) a .1 less);
       },
   λ m. and-is (holds v x a) (not (isIn a x) && spares) .1 (
@@ -108,8 +112,8 @@ pub agreeOn-false : (v : View) (x p q : ℕ) → agreeOn v x p q ≡ false → A
 agreeOn-false v x p q e h = false-is e (agreeOn-is v x p q .1 h)
 
 -- two rows break a dependency, by the tests
-pub breaks-by : (v : View) (x a p q : ℕ) → T (ltb p q) → T (ltb q (v .rows)) → agreeOn v x p q ≡ true → agreeRight v a p q ≡ false
-    → Breaks v x a p q
+pub breaks-by : (v : View) (x a p q : ℕ) → T (ltb p q) → T (ltb q (v .rows)) → agreeOn v x p q ≡ true
+    → agreeRight v a p q ≡ false → Breaks v x a p q
 breaks-by v x a p q lower exists left right =
     record {
       lower = lit< lower;
@@ -180,7 +184,8 @@ module _ (v : View) (eq : Equivalence v) where
       at true h g = eqb-is p r .1 (eqb-is p q .0 h ∙ eqb-is q r .0 g)
       at false h g = eq .transitive a p q r h g
 
-  -- two rows that break a dependency show that it does not hold, and where it does not, two rows break it, the lower first
+  -- two rows that break a dependency show that it does not hold, and where it does not, two rows break it, the lower
+  -- first
   apart-breaks : (x a p q : ℕ) → Apart v x a p q → (p : ℕ) × (q : ℕ) × Breaks v x a p q
   apart-breaks x a p q h = at (ℕ-discrete p q) (decLt p q)
     where

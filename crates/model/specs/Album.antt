@@ -18,11 +18,12 @@ album =
     ++ rowOf 2 (2 ∷ 8 ∷ [])
     ++ trailerOf (0 ∷ 24 ∷ []) 2 70
 
--- what the listing program prints for it: `tables 2 sets 10 entries 3`, `1 1 2`, `1 3 row` and `1 6 row`, each with a line feed
+-- what the listing program prints for it: `tables 2 sets 10 entries 3`, `1 1 2`, `1 3 row` and `1 6 row`, each with a
+-- line feed
 abbrev pub albumLines : List ℕ
 albumLines =
-    (116 ∷ 97 ∷ 98 ∷ 108 ∷ 101 ∷ 115 ∷ 32 ∷ 50 ∷ 32 ∷ 115 ∷ 101 ∷ 116 ∷ 115 ∷ 32 ∷ 49 ∷ 48 ∷ 32 ∷ 101 ∷ 110 ∷ 116 ∷ 114 ∷ 105 ∷ 101 ∷ 115
-    ∷ 32 ∷ 51 ∷ 10 ∷ [])
+    (116 ∷ 97 ∷ 98 ∷ 108 ∷ 101 ∷ 115 ∷ 32 ∷ 50 ∷ 32 ∷ 115 ∷ 101 ∷ 116 ∷ 115 ∷ 32 ∷ 49 ∷ 48 ∷ 32 ∷ 101 ∷ 110 ∷ 116 ∷ 114
+    ∷ 105 ∷ 101 ∷ 115 ∷ 32 ∷ 51 ∷ 10 ∷ [])
     ++ (49 ∷ 32 ∷ 49 ∷ 32 ∷ 50 ∷ 10 ∷ [])
     ++ (49 ∷ 32 ∷ 51 ∷ 32 ∷ 114 ∷ 111 ∷ 119 ∷ 10 ∷ [])
     ++ (49 ∷ 32 ∷ 54 ∷ 32 ∷ 114 ∷ 111 ∷ 119 ∷ 10 ∷ [])

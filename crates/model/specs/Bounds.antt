@@ -1,4 +1,5 @@
--- The bounds of document 01, once in the definitions; src/lib.rt has the same numbers in code. The bound on columns is that of `columns`.
+-- The bounds of document 01, once in the definitions; src/lib.rt has the same numbers in code. The bound on columns
+-- is that of `columns`.
 use Prim.Native.Nat.{ℕ}
 
 -- tables in a catalogue, at most

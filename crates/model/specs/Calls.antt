@@ -1,5 +1,5 @@
--- Listing calls, over any list of cells: for each place, what stands there. One call's stop rule, its refusals 11 to 13, what it replies and
--- what it leaves in the lent run and work words. Nothing here knows what an entry is.
+-- Listing calls, over any list of cells: for each place, what stands there. One call's stop rule, its refusals 11 to
+-- 13, what it replies and what it leaves in the lent run and work words. Nothing here knows what an entry is.
 use Prim.Native.Nat.{ℕ, zero, suc, _+_, _-_, _≤_, _<_}
 use mathlib.Core.Path.{_≡_}
 use mathlib.Core.Logic.{_⊎_}
@@ -16,7 +16,8 @@ abbrev pub flat : {A : Type 0} → List (List A) → List A
 flat [] = []
 flat (c ∷ cs) = c ++ flat cs
 
--- how many sets are passed from here on: until the budget is used up, no set is left, or the next set's entries no longer all fit
+-- how many sets are passed from here on: until the budget is used up, no set is left, or the next set's entries no
+-- longer all fit
 unfoldable pub passed : {A : Type 0} → ℕ → ℕ → List (List A) → ℕ
 passed budget room [] = 0
 passed budget room (c ∷ cs) =

@@ -8,8 +8,10 @@ use Rattle.columns.specs.Test.{ifEq, ifLt, ifLe}
 use Rattle.model.specs.Bounds.{tableBound, rowBound, smallestFile, noParent}
 use Rattle.model.specs.Refusal.{number, orElse, firstOf}
 use Rattle.model.specs.Reply.{Reply, replyOf}
-use Rattle.model.specs.declared.Refusal.the-variants.{FileTooShort, BadTrailer, BadExtent, TableTooLarge, BadParentTable, TooManyVisible, BadParentRow}
-use Rattle.model.specs.Catalogue.{tables, trailer, tableAt, columns, parent, rows, parentRow, tableEnd, visible, sets}
+use Rattle.model.specs.declared.Refusal.the-variants.{FileTooShort, BadTrailer, BadExtent, TableTooLarge}
+use Rattle.model.specs.declared.Refusal.the-variants.{BadParentTable, TooManyVisible, BadParentRow}
+use Rattle.model.specs.Catalogue.{tables, trailer, tableAt, columns, parent, rows, parentRow, tableEnd, visible}
+use Rattle.model.specs.Catalogue.{sets}
 
 -- 1: the file is shorter than the smallest one
 unfoldable pub sizeCode : List ℕ → ℕ
@@ -29,17 +31,20 @@ startOf cat (suc table) = tableEnd cat table
 
 -- 3: the table's offset is not there, or its first 6 bytes pass the trailer's first byte
 unfoldable pub headCode : List ℕ → ℕ → ℕ
-headCode cat table = ifEq (tableAt cat table) (startOf cat table) (ifLe (tableAt cat table + 6) (trailer cat) 0 (number BadExtent)) (number BadExtent)
+headCode cat table = ifEq (tableAt cat table) (startOf cat table)
+    (ifLe (tableAt cat table + 6) (trailer cat) 0 (number BadExtent)) (number BadExtent)
 
 -- 4: too many columns or rows
 unfoldable pub boundCode : List ℕ → ℕ → ℕ
 boundCode cat table =
-    ifLt columnBound (columns cat table) (number TableTooLarge) (ifLt rowBound (rows cat table) (number TableTooLarge) 0)
+    ifLt columnBound (columns cat table) (number TableTooLarge)
+    (ifLt rowBound (rows cat table) (number TableTooLarge) 0)
 
 -- 5: the root has a parent table, or another's is not a lower-numbered one
 unfoldable pub parentCode : List ℕ → ℕ → ℕ
 parentCode cat table =
-    ifEq table 0 (ifEq (parent cat table) noParent 0 (number BadParentTable)) (ifLt (parent cat table) table 0 (number BadParentTable))
+    ifEq table 0 (ifEq (parent cat table) noParent 0 (number BadParentTable))
+    (ifLt (parent cat table) table 0 (number BadParentTable))
 
 -- 6: too many visible columns
 unfoldable pub widthCode : List ℕ → ℕ → ℕ

@@ -1,5 +1,6 @@
--- Damaged catalogues, one for each ground of the refusals 1 to 7, and all grounds in each: wherever it can be, the one that the file is
--- refused for is the only one. Then files at the bounds, which are accepted, and files with several faults, for the order of refusals.
+-- Damaged catalogues, one for each ground of the refusals 1 to 7, and all grounds in each: wherever it can be, the
+-- one that the file is refused for is the only one. Then files at the bounds, which are accepted, and files with
+-- several faults, for the order of refusals.
 use Prim.Native.Nat.{ℕ, zero, suc, _+_, _*_}
 use mathlib.Core.Path.{_≡_}
 use mathlib.Core.List.{List, [], _∷_, _++_}
@@ -9,15 +10,16 @@ use Rattle.model.specs.Bounds.{noParent}
 use Rattle.model.specs.Bytes.{bytes2, bytes4}
 use Rattle.model.specs.Refusal.{firstOf}
 use Rattle.model.specs.Catalogue.{tables, rows}
-use Rattle.model.specs.Check.{Accepted, checkCode, sizeCode, trailerCode, headCode, boundCode, parentCode, widthCode, extentCode, rowCode, leftCode}
+use Rattle.model.specs.Check.{Accepted, checkCode, sizeCode, trailerCode, headCode, boundCode, parentCode}
+use Rattle.model.specs.Check.{widthCode, extentCode, rowCode, leftCode}
 use Rattle.model.specs.Encode.{headOf, rowOf, trailerOf}
 
 -- every ground in a file, in the order of the check: not only the first
 unfoldable pub groundsFrom : List ℕ → ℕ → ℕ → List ℕ
 groundsFrom cat zero i = leftCode cat ∷ []
 groundsFrom cat (suc n) i =
-    headCode cat i ∷ boundCode cat i ∷ parentCode cat i ∷ widthCode cat i ∷ extentCode cat i ∷ firstOf (rows cat i) 0 (rowCode cat i)
-    ∷ groundsFrom cat n (suc i)
+    headCode cat i ∷ boundCode cat i ∷ parentCode cat i ∷ widthCode cat i ∷ extentCode cat i
+    ∷ firstOf (rows cat i) 0 (rowCode cat i) ∷ groundsFrom cat n (suc i)
 
 unfoldable pub notZero : List ℕ → List ℕ
 notZero [] = []
@@ -107,7 +109,8 @@ pub record Damages : Type 0 where
   pub tablesMany : Only manyTables 2
   pub trailerLong : Only longTrailer 2
   pub extentOffset : Only lateTable 3
-  -- where the 6 bytes pass the trailer, so do the rows, and the end of the last table is not the trailer's first byte: all three are 3
+  -- where the 6 bytes pass the trailer, so do the rows, and the end of the last table is not the trailer's first
+  -- byte: all three are 3
   pub extentHead : Refused shortHead 3 (3 ∷ 3 ∷ 3 ∷ [])
   -- and where the rows pass it, the end of the last table is not the trailer's first byte
   pub extentRows : Refused shortRow 3 (3 ∷ 3 ∷ [])
@@ -121,7 +124,8 @@ pub record Damages : Type 0 where
   pub parentOfRootRow : Only rootedRow 7
   pub parentRowUnknown : Only unknownParentRow 7
 
--- files at the bounds: 16 bytes; 16 columns; 4,096 rows; 15 columns and one more in a table below. 16 tables: `deepest` of specs/Line.antt
+-- files at the bounds: 16 bytes; 16 columns; 4,096 rows; 15 columns and one more in a table below. 16 tables:
+-- `deepest` of specs/Line.antt
 unfoldable pub smallest : List ℕ
 smallest = headOf 0 noParent 0 ++ trailerOf (0 ∷ []) 1 6
 
@@ -140,8 +144,9 @@ pub record AtTheBounds : Type 0 where
   pub rows4096 : Accepted mostRows
   pub visible16 : Accepted widest
 
--- several faults each: an offset and 17 columns; 17 columns and the root's parent table; a table its own parent, whose columns then count again
--- and again; too many visible columns and a row that passes the trailer, below a table without rows; such a row and its parent row
+-- several faults each: an offset and 17 columns; 17 columns and the root's parent table; a table its own parent,
+-- whose columns then count again and again; too many visible columns and a row that passes the trailer, below a table
+-- without rows; such a row and its parent row
 unfoldable pub lateAndLarge : List ℕ
 lateAndLarge = (0 ∷ []) ++ headOf 17 noParent 0 ++ trailerOf (1 ∷ []) 1 7
 
@@ -157,7 +162,8 @@ wideAndLong = headOf 16 noParent 0 ++ headOf 1 0 1 ++ trailerOf (0 ∷ 6 ∷ [])
 unfoldable pub longAndRooted : List ℕ
 longAndRooted = headOf 1 noParent 1 ++ bytes2 0 ++ trailerOf (0 ∷ []) 1 8
 
--- table by table: a root row with a parent row, and then a table that is its own parent; and then a byte after the last table
+-- table by table: a root row with a parent row, and then a table that is its own parent; and then a byte after the
+-- last table
 unfoldable pub rowThenTable : List ℕ
 rowThenTable = headOf 0 noParent 1 ++ rowOf 0 [] ++ headOf 0 1 0 ++ trailerOf (0 ∷ 8 ∷ []) 2 14
 
@@ -169,8 +175,8 @@ pub record DamageOrder : Type 0 where
   pub oneBefore2 : (sizeCode cut ≡ 1) × (trailerCode cut ≡ 2) × (checkCode cut ≡ 1)
   -- 2 before the tables: no table, and bytes left
   pub twoBefore3 : Refused noTable 2 (2 ∷ 3 ∷ [])
-  -- in a table: offset and 6 bytes (3), 4, 5, 6, rows' extent (3), each row (7). Where rows pass the trailer, the end of the last table is
-  -- not its first byte, so 3 stands at the end too
+  -- in a table: offset and 6 bytes (3), 4, 5, 6, rows' extent (3), each row (7). Where rows pass the trailer, the end
+  -- of the last table is not its first byte, so 3 stands at the end too
   pub threeBefore4 : Refused lateAndLarge 3 (3 ∷ 4 ∷ 6 ∷ [])
   pub fourBefore5 : Refused largeAndRooted 4 (4 ∷ 5 ∷ 6 ∷ [])
   pub fiveBefore6 : Refused ownParentAndWide 5 (5 ∷ 6 ∷ [])

@@ -1,4 +1,5 @@
--- Demand 3, clause by clause, about a list of calls as seen. Each call is handed the place held; at the start that is 0.
+-- Demand 3, clause by clause, about a list of calls as seen. Each call is handed the place held; at the start that is
+-- 0.
 use Prim.Native.Nat.{ℕ, zero, suc, _+_, _≤_, _<_}
 use mathlib.Core.Path.{_≡_}
 use mathlib.Core.Logic.{_⊎_, _↔_}
@@ -13,7 +14,8 @@ use Rattle.model.specs.Calls.{flat, Seen, Obeys, callCode}
 use Rattle.model.specs.declared.Entry.{Entry}
 use Rattle.model.specs.declared.Refusal.the-variants.{TooFewWords, PastTheEnd, RunTooShort}
 
--- the place held after a reply, the number of sets it passed and its entry count: a refused call leaves the place and passes nothing
+-- the place held after a reply, the number of sets it passed and its entry count: a refused call leaves the place and
+-- passes nothing
 abbrev pub held : ℕ → Reply → ℕ
 held p (refused n) = p
 held p (answered vs) = getD vs 0 0
@@ -55,15 +57,17 @@ Every P (s ∷ ss) = P s × Every P ss
 abbrev pub AllObey : {A : Type 0} → List (List A) → List (Seen A) → Type 0
 AllObey cs = Every (λ s. Obeys cs (callCode cs (s .place) (s .budget) (length (s .run)) (length (s .work))) s)
 
--- the stop rule, as a statement: k sets are passed from a place with a budget and room for so many entries, and not one more could be
+-- the stop rule, as a statement: k sets are passed from a place with a budget and room for so many entries, and not
+-- one more could be
 pub record Stops {A : Type 0} (cs : List (List A)) (place budget room k : ℕ) : Type 0 where
   pub inBudget : k ≤ budget
   pub inRange : place + k ≤ length cs
   pub fits : length (flat (take k (drop place cs))) ≤ room
   pub reason : (k ≡ budget) ⊎ ((place + k ≡ length cs) ⊎ (room < length (flat (take (suc k) (drop place cs)))))
 
--- one call: refused exactly where the table says so, and otherwise stopped by the stop rule with the entries of its own sets. Records past its
--- entry count are untouched, which after a refusal are all; the work words are 0 after an answer and after 13, and untouched after others
+-- one call: refused exactly where the table says so, and otherwise stopped by the stop rule with the entries of its
+-- own sets. Records past its entry count are untouched, which after a refusal are all; the work words are 0 after an
+-- answer and after 13, and untouched after others
 pub record Rightly {A : Type 0} (cs : List (List A)) (s : Seen A) : Type 0 where
   pub refused11 : (s .reply ≡ refused (number TooFewWords)) ↔ (length (s .work) < workBound)
   pub refused12 : (s .reply ≡ refused (number PastTheEnd)) ↔ ((workBound ≤ length (s .work)) × (length cs < s .place))
@@ -92,8 +96,8 @@ pub record Demand3 {A : Type 0} (cs : List (List A)) (ss : List (Seen A)) : Type
   pub countsAdd : total entryCount ss ≡ length (joined ss)
   pub atTheLast : placeHeld 0 ss ≡ length cs → joined ss ≡ flat cs
 
--- and about a listing: at the last place the joined entries are exactly those that stand in it, once, in the stated order, and as many as
--- there are
+-- and about a listing: at the last place the joined entries are exactly those that stand in it, once, in the stated
+-- order, and as many as there are
 pub record Complete (l : Listing) (ss : List (Seen Entry)) : Type 0 where
   pub calls : Demand3 (cells l) ss
   pub exactly : placeHeld 0 ss ≡ length (cells l) → (e : Entry) → List·Memᴰ e (joined ss) ↔ Stands l e

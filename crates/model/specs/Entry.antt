@@ -1,5 +1,5 @@
--- Entries and their order ("Order and places"): by target, then left sides by size and number, then rights by number, the row last. The
--- number of the row, 255, is above every column's, so rights go by number throughout.
+-- Entries and their order ("Order and places"): by target, then left sides by size and number, then rights by number,
+-- the row last. The number of the row, 255, is above every column's, so rights go by number throughout.
 use Prim.Native.Nat.{ℕ, _<_}
 use mathlib.Core.Path.{_≡_}
 use mathlib.Core.Logic.{_⊎_}

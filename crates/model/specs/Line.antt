@@ -1,5 +1,6 @@
--- Catalogues of several tables, and what is true of them: columns and rows two and three tables up, missing cells of ancestors, parents with
--- equal cells, two tables under one parent, and as many tables in a line as a catalogue may have.
+-- Catalogues of several tables, and what is true of them: columns and rows two and three tables up, missing cells of
+-- ancestors, parents with equal cells, two tables under one parent, and as many tables in a line as a catalogue may
+-- have.
 use Prim.Native.Nat.{ℕ, zero, suc, _+_}
 use mathlib.Core.Path.{_≡_}
 use mathlib.Core.List.{List, [], _∷_, _++_, map}
@@ -56,19 +57,21 @@ pub record Line : Type 0 where
   pub twoUp : map (ancestor inLine 1 3) (0 ∷ 1 ∷ 2 ∷ 3 ∷ []) ≡ 0 ∷ 1 ∷ 2 ∷ 1 ∷ []
   pub threeUp : map (ancestor inLine 0 3) (0 ∷ 1 ∷ 2 ∷ 3 ∷ []) ≡ 2 ∷ 0 ∷ 0 ∷ 0 ∷ []
   pub itself : map (ancestor inLine 3 3) (0 ∷ 1 ∷ 2 ∷ 3 ∷ []) ≡ 0 ∷ 1 ∷ 2 ∷ 3 ∷ []
-  -- column 0 is three tables up, and its cells are missing: rows 1 and 2 reach the same root row by different parents and agree, rows 0 and 1
-  -- reach different ones and do not
+  -- column 0 is three tables up, and its cells are missing: rows 1 and 2 reach the same root row by different parents
+  -- and agree, rows 0 and 1 reach different ones and do not
   pub sameMissing : agreeAt inLine 3 0 1 2 ≡ true
   pub otherMissing : agreeAt inLine 3 0 0 1 ≡ false
-  -- column 1 is two tables up: rows 0 and 1 reach different rows with equal cells and agree, rows 1 and 2 reach unequal cells
+  -- column 1 is two tables up: rows 0 and 1 reach different rows with equal cells and agree, rows 1 and 2 reach
+  -- unequal cells
   pub equalAbove : agreeAt inLine 3 1 0 1 ≡ true
   pub unequalAbove : agreeAt inLine 3 1 1 2 ≡ false
-  -- column 2 is the parent table's: rows 0 and 2 have different parents with equal cells and agree, rows 1 and 3 have the same parent, whose
-  -- cell is missing, and agree, and rows 0 and 1 do not
+  -- column 2 is the parent table's: rows 0 and 2 have different parents with equal cells and agree, rows 1 and 3 have
+  -- the same parent, whose cell is missing, and agree, and rows 0 and 1 do not
   pub equalParents : agreeAt inLine 3 2 0 2 ≡ true
   pub sameParent : agreeAt inLine 3 2 1 3 ≡ true
   pub otherParents : agreeAt inLine 3 2 0 1 ≡ false
-  -- columns 3 and 4 are own: rows 1 and 2 have equal cells under different parents, rows 1 and 3 unequal cells under one parent
+  -- columns 3 and 4 are own: rows 1 and 2 have equal cells under different parents, rows 1 and 3 unequal cells under
+  -- one parent
   pub equalOwn : agreeAt inLine 3 3 1 2 ≡ true
   pub unequalOwn : agreeAt inLine 3 4 1 3 ≡ false
   -- {0}, three tables up, gives 3; it doesn't give 4, rows 1 and 2 break it
@@ -87,7 +90,8 @@ pub record Line : Type 0 where
       ∷ entry 3 1 3 ∷ entry 3 6 3 ∷ entry 3 17 row ∷ entry 3 20 3 ∷ entry 3 20 row ∷ entry 3 24 row
       ∷ []
 
--- two tables under the root, and one under the first of them: the parents of tables 2 and 3 are not the tables before them
+-- two tables under the root, and one under the first of them: the parents of tables 2 and 3 are not the tables before
+-- them
 unfoldable pub forked : List ℕ
 forked =
     headOf 1 noParent 2
@@ -123,7 +127,8 @@ pub record Fork : Type 0 where
       ∷ entry 3 4 3 ∷ entry 3 4 row ∷ entry 3 8 row
       ∷ []
 
--- 16 tables in a line, each with one column: two root rows, and one row in each other table, which leads to the second of them
+-- 16 tables in a line, each with one column: two root rows, and one row in each other table, which leads to the
+-- second of them
 unfoldable pub below : ℕ → ℕ → List ℕ
 below zero parent = []
 below (suc n) parent = headOf 1 parent 1 ++ rowOf 0 (1 ∷ []) ++ below n (suc parent)

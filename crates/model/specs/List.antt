@@ -1,5 +1,5 @@
--- The listing call. Its contract is the same for every listing: one code comes before the refusals of the call itself. For the ordinary
--- listing of a catalogue that is the check's.
+-- The listing call. Its contract is the same for every listing: one code comes before the refusals of the call
+-- itself. For the ordinary listing of a catalogue that is the check's.
 use Prim.Native.Nat.{ℕ}
 use mathlib.Core.List.{List}
 use lib.ListN.{length}

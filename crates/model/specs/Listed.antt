@@ -1,5 +1,5 @@
--- What is listed: of a target's view, a left and a right side. In the words of the document, and beside it the test that computes;
--- proofs/Listed.antt shows that the two say the same. Every listing goes by this one definition.
+-- What is listed: of a target's view, a left and a right side. In the words of the document, and beside it the test
+-- that computes; proofs/Listed.antt shows that the two say the same. Every listing goes by this one definition.
 use Prim.Native.Nat.{ℕ}
 use mathlib.Core.Bool.{Bool}
 use Rattle.model.specs.View.{View, Minimal, minimal}

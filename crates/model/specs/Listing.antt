@@ -1,5 +1,5 @@
--- The full listing ("The full listing and its calls"), for any targets: what each shows of itself, and which rights it has. The ordinary
--- listing of a catalogue is one instance.
+-- The full listing ("The full listing and its calls"), for any targets: what each shows of itself, and which rights
+-- it has. The ordinary listing of a catalogue is one instance.
 use Prim.Native.Nat.{ℕ, zero, suc, _+_, _^_, _≤_, _<_}
 use mathlib.Core.List.{List, [], _∷_, _++_, List·Memᴰ}
 use Rattle.columns.specs.Bound.{columnBound}
@@ -44,8 +44,8 @@ unfoldable pub cellsFrom : Listing → ℕ → ℕ → List (List Entry)
 cellsFrom l zero target = []
 cellsFrom l (suc n) target = cellsOf l target (inOrder (widthOf l target)) ++ cellsFrom l n (suc target)
 
--- for each place, the entries of the set at that place. The full listing is all of them one after the other; below place p stand the
--- entries of the first p sets; the last place is how many there are
+-- for each place, the entries of the set at that place. The full listing is all of them one after the other; below
+-- place p stand the entries of the first p sets; the last place is how many there are
 unfoldable pub cells : Listing → List (List Entry)
 cells l = cellsFrom l (l .targets) 0
 
@@ -73,12 +73,14 @@ countTargets l (suc target) = countLefts l target (2 ^ widthOf l target) + count
 unfoldable pub countAll : Listing → ℕ
 countAll l = countTargets l (l .targets)
 
--- a listing within the bounds: as many targets and members as a catalogue has at most, and rights among the members and the row
+-- a listing within the bounds: as many targets and members as a catalogue has at most, and rights among the members
+-- and the row
 pub record Bounded (l : Listing) : Type 0 where
   pub targets : l .targets ≤ tableBound
   pub members : (target : ℕ) → target < l .targets → widthOf l target ≤ columnBound
   pub rights : (target : ℕ) → target < l .targets → l .rights target < 2 ^ suc (widthOf l target)
 
--- the ordinary listing of a catalogue: its tables, their visible columns, and their own columns and the row on the right
+-- the ordinary listing of a catalogue: its tables, their visible columns, and their own columns and the row on the
+-- right
 abbrev pub ordinary : List ℕ → Listing
 ordinary cat = record { targets = tables cat; view = view cat; rights = ownRights cat }

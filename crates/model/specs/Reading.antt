@@ -1,5 +1,5 @@
--- Reading a packed list behind any bytes ("Packed list"): its trailer, 14 and 15, and what is read of a file that has none
--- of these grounds.
+-- Reading a packed list behind any bytes ("Packed list"): its trailer, 14 and 15, and what is read of a file that has
+-- none of these grounds.
 use Prim.Native.Nat.{ℕ, zero, suc, _-_}
 use mathlib.Core.List.{List, [], _∷_}
 use lib.ListN.{length, take, drop}

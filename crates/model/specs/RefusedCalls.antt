@@ -1,6 +1,7 @@
--- Calls that are refused, one for each ground of the refusals 8 to 16, with all grounds against each: wherever it can be, the one that the
--- call is refused for is the only one. Beside each stands the nearest call that is not refused. Then the order of refusals: calls with
--- several grounds. The album unless said; its listing has one entry at place 3.
+-- Calls that are refused, one for each ground of the refusals 8 to 16, with all grounds against each: wherever it can
+-- be, the one that the call is refused for is the only one. Beside each stands the nearest call that is not refused.
+-- Then the order of refusals: calls with several grounds. The album unless said; its listing has one entry at place
+-- 3.
 use Prim.Native.Nat.{ℕ}
 use mathlib.Core.Path.{_≡_}
 use mathlib.Core.List.{List, [], _∷_, _++_}
@@ -17,7 +18,8 @@ use Rattle.model.specs.Entries.{entriesCode}
 use Rattle.model.specs.Packing.{outputCode, packCode, packed}
 use Rattle.model.specs.Reading.{entriesHeld, readCode, tailCode}
 use Rattle.model.specs.Album.{album}
-use Rattle.model.specs.Damaged.{notZero, cut, noTable, lateTable, manyColumns, ownParent, tooWide, unknownParentRow}
+use Rattle.model.specs.Damaged.{notZero, cut, noTable, lateTable, manyColumns, ownParent, tooWide}
+use Rattle.model.specs.Damaged.{unknownParentRow}
 use Rattle.model.specs.declared.Entry.{Entry}
 
 -- a call with code c is refused with the number, which is the only one among the grounds against it
@@ -135,8 +137,8 @@ pub record RefusedLists : Type 0 where
   pub topRightInLeft : PackOnly (entry 0 32768 15 ∷ []) 12 15
   pub rightBeside : packCode (entry 0 5 1 ∷ []) 12 ≡ 0
   pub rowOfAll : packCode (entry 0 65535 row ∷ []) 12 ≡ 0
-  -- 15: not later than the one before: equal; a lower target; a larger left, whatever its number; as large a left with a higher number; the
-  -- same left with a higher right, and with the row
+  -- 15: not later than the one before: equal; a lower target; a larger left, whatever its number; as large a left
+  -- with a higher number; the same left with a higher right, and with the row
   pub equalNeighbours : PackOnly (entry 1 1 2 ∷ entry 1 1 2 ∷ []) 16 15
   pub lowerTarget : PackOnly (entry 1 0 2 ∷ entry 0 3 2 ∷ []) 16 15
   pub smallerLeft : PackOnly (entry 1 3 2 ∷ entry 1 8 2 ∷ []) 16 15

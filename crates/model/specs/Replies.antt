@@ -1,5 +1,5 @@
--- What calls reply, and what they leave in lent memory: questions, pairs and listing calls on the album, and a packed list. And what the
--- listing program prints beside the album's lines.
+-- What calls reply, and what they leave in lent memory: questions, pairs and listing calls on the album, and a packed
+-- list. And what the listing program prints beside the album's lines.
 use Prim.Native.Nat.{ℕ, _≤_, _<_}
 use mathlib.Core.Path.{_≡_}
 use mathlib.Core.List.{List, [], _∷_, _++_}
@@ -30,7 +30,8 @@ pub record QuestionReplies : Type 0 where
   pub refused8 : askMeaning album 2 1 2 16384 ≡ refused 8
   pub refused11 : askMeaning album 1 1 2 16383 ≡ refused 11
   pub refused6 : askMeaning tooWide 0 0 row 0 ≡ refused 6
-  -- the pair replies 'none' where it holds, and nothing else; rows 0 and 2 where it breaks, not 'none' and not the higher row first
+  -- the pair replies 'none' where it holds, and nothing else; rows 0 and 2 where it breaks, not 'none' and not the
+  -- higher row first
   pub pairOfK1 : (r : Reply) → PairMeaning album 1 1 2 16384 r → r ≡ answered []
   pub pairOfK2 : PairMeaning album 1 2 2 16384 (answered (0 ∷ 2 ∷ []))
   pub notNone : PairMeaning album 1 2 2 16384 (answered []) → ⊥
@@ -71,7 +72,8 @@ pub record ListReplies : Type 0 where
   pub noRecord : ListZeroes album 0 10 [] (answered (3 ∷ 3 ∷ 0 ∷ [])) []
   -- 13: four tables in a line have two entries at place 10; the run is untouched, and the work words are 0
   pub refused13 : ListZeroes inLine 10 1 (blank ∷ []) (refused 13) (blank ∷ [])
-  pub twoAtOnce : ListZeroes inLine 10 1 (blank ∷ blank ∷ []) (answered (11 ∷ 1 ∷ 2 ∷ [])) (entry 2 3 2 ∷ entry 2 3 row ∷ [])
+  pub twoAtOnce : ListZeroes inLine 10 1 (blank ∷ blank ∷ []) (answered (11 ∷ 1 ∷ 2 ∷ []))
+      (entry 2 3 2 ∷ entry 2 3 row ∷ [])
   -- 12, 11 and a refused catalogue: nothing lent is altered
   pub refused12 : ListKeeps album 11 1 (blank ∷ []) (refused 12) (blank ∷ [])
   pub refused11 : ListMeaning album (seen 0 10 (blank ∷ []) (3 ∷ 1 ∷ []) (refused 11) (blank ∷ []) (3 ∷ 1 ∷ []))
@@ -147,5 +149,7 @@ pub record TextReplies : Type 0 where
   pub refused6 : answerText tooWide ≡ 114 ∷ 101 ∷ 102 ∷ 117 ∷ 115 ∷ 101 ∷ 100 ∷ 32 ∷ 54 ∷ 10 ∷ []
   pub refused16 : refusedLine 16 ≡ 114 ∷ 101 ∷ 102 ∷ 117 ∷ 115 ∷ 101 ∷ 100 ∷ 32 ∷ 49 ∷ 54 ∷ 10 ∷ []
   -- at the bound a file is looked at, as this one that is refused by 2; one byte more is `too long`, whatever the bytes
-  pub atTheBound : (cat : List ℕ) → length cat ≡ 32768 → checkCode cat ≡ 2 → answerText cat ≡ 114 ∷ 101 ∷ 102 ∷ 117 ∷ 115 ∷ 101 ∷ 100 ∷ 32 ∷ 50 ∷ 10 ∷ []
-  pub long : (cat : List ℕ) → 32768 < length cat → answerText cat ≡ 116 ∷ 111 ∷ 111 ∷ 32 ∷ 108 ∷ 111 ∷ 110 ∷ 103 ∷ 10 ∷ []
+  pub atTheBound : (cat : List ℕ) → length cat ≡ 32768 → checkCode cat ≡ 2
+      → answerText cat ≡ 114 ∷ 101 ∷ 102 ∷ 117 ∷ 115 ∷ 101 ∷ 100 ∷ 32 ∷ 50 ∷ 10 ∷ []
+  pub long : (cat : List ℕ) → 32768 < length cat → answerText cat ≡ 116 ∷ 111 ∷ 111 ∷ 32 ∷ 108 ∷ 111 ∷ 110 ∷ 103 ∷ 10
+      ∷ []

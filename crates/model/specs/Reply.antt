@@ -1,4 +1,5 @@
--- What a public call replies: a refusal's number alone, or the answer's values. One definition for each answer lists its cases.
+-- What a public call replies: a refusal's number alone, or the answer's values. One definition for each answer lists
+-- its cases.
 use Prim.Native.Nat.{ℕ}
 use mathlib.Core.List.{List, [], _∷_}
 use lib.ListN.{length, replicate}

@@ -1,5 +1,5 @@
--- The right sides of a target ("Agreement"): some of its members, and the row. A mask says which: where there are n members, bit k stands
--- for member k, and bit n for the row.
+-- The right sides of a target ("Agreement"): some of its members, and the row. A mask says which: where there are n
+-- members, bit k stands for member k, and bit n for the row.
 use Prim.Native.Nat.{ℕ, zero, suc}
 use mathlib.Core.List.{List, [], _∷_}
 use Rattle.columns.specs.Test.{ifEq, pick}

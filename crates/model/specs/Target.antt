@@ -1,5 +1,5 @@
--- A row of a target with the ancestor rows that its parent numbers lead to, and what two such rows agree on ("Agreement"; a tree tuple of
--- source 004's Definition 5 without the descendants, and Definitions 6 to 8).
+-- A row of a target with the ancestor rows that its parent numbers lead to, and what two such rows agree on
+-- ("Agreement"; a tree tuple of source 004's Definition 5 without the descendants, and Definitions 6 to 8).
 use Prim.Native.Nat.{ℕ, zero, suc, _-_, _^_}
 use mathlib.Core.List.{List}
 use mathlib.Core.Bool.{Bool, true, false, not, _&&_, _||_}
@@ -29,7 +29,8 @@ ancestor cat a target k = ancestorIn cat a tableBound target k
 unfoldable pub cellsAgree : ℕ → ℕ → ℕ → ℕ → Bool
 cellsAgree p q x y = eqb p q || (not (eqb x missing) && eqb x y)
 
--- rows p and q of a target agree on visible column v: by the rows of the column's table that they reach, and their cells there
+-- rows p and q of a target agree on visible column v: by the rows of the column's table that they reach, and their
+-- cells there
 unfoldable pub agreeAt : List ℕ → ℕ → ℕ → ℕ → ℕ → Bool
 agreeAt cat target v p q =
     let a = owner cat target v in
@@ -42,6 +43,7 @@ agreeAt cat target v p q =
 abbrev pub view : List ℕ → ℕ → View
 view cat target = record { rows = rows cat target; members = visible cat target; agree = agreeAt cat target }
 
--- the right sides of a target as a mask over its visible columns and the row: its own columns, by their visible numbers, and the row
+-- the right sides of a target as a mask over its visible columns and the row: its own columns, by their visible
+-- numbers, and the row
 abbrev pub ownRights : List ℕ → ℕ → ℕ
 ownRights cat target = 2 ^ suc (visible cat target) - 2 ^ inherited cat target

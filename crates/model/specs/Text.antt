@@ -10,7 +10,8 @@ use Rattle.model.specs.Listing.{cells, ordinary}
 use Rattle.model.specs.Calls.{flat}
 use Rattle.model.specs.declared.Entry.{Entry}
 
--- a number in decimal: one digit below 10, else the digits of its tenth and the last digit; a number has no more digits than its value and 1
+-- a number in decimal: one digit below 10, else the digits of its tenth and the last digit; a number has no more
+-- digits than its value and 1
 unfoldable pub decimalIn : ℕ → ℕ → List ℕ
 decimalIn zero n = []
 decimalIn (suc fuel) n = ifLt n 10 ((48 + n) ∷ []) (decimalIn fuel (n / 10) ++ ((48 + n % 10) ∷ []))

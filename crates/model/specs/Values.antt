@@ -7,10 +7,14 @@ use Rattle.columns.specs.Bound.{columnBound}
 use Rattle.model.specs.Bounds.{tableBound, rowBound, workBound, smallestFile, noParent, missing, row, fileBound}
 use Rattle.model.specs.Bytes.{byteAt, u16At, u32At, bytes2, bytes4}
 use Rattle.model.specs.Refusal.{number, orElse, firstOf}
-use Rattle.model.specs.Reply.{Reply, refused, answered, replyOf, checkReply, askReply, pairReply, listReply, packReply, openReply, entriesReply}
+use Rattle.model.specs.Reply.{Reply, refused, answered, replyOf, checkReply, askReply, pairReply, listReply}
+use Rattle.model.specs.Reply.{packReply, openReply, entriesReply}
 use Rattle.model.specs.Album.{album}
 use Rattle.model.specs.declared.Refusal.{Refusal}
-use Rattle.model.specs.declared.Refusal.the-variants.{FileTooShort, BadTrailer, BadExtent, TableTooLarge, BadParentTable, TooManyVisible, BadParentRow, UnknownTable, UnknownColumn, UnknownRight, TooFewWords, PastTheEnd, RunTooShort, NoList, BadEntry, OutputTooShort}
+use Rattle.model.specs.declared.Refusal.the-variants.{FileTooShort, BadTrailer, BadExtent, TableTooLarge}
+use Rattle.model.specs.declared.Refusal.the-variants.{BadParentTable, TooManyVisible, BadParentRow, UnknownTable}
+use Rattle.model.specs.declared.Refusal.the-variants.{UnknownColumn, UnknownRight, TooFewWords, PastTheEnd}
+use Rattle.model.specs.declared.Refusal.the-variants.{RunTooShort, NoList, BadEntry, OutputTooShort}
 use Rattle.model.specs.declared.CheckAnswer.the-variants as check-answer
 use Rattle.model.specs.declared.AskAnswer.the-variants as ask-answer
 use Rattle.model.specs.declared.PairAnswer.the-variants as pair-answer

@@ -1,6 +1,6 @@
--- Agreement, dependency, key and minimal ("Agreement", and demand 2), over what a target shows of itself: how many rows, how many members a
--- left side may have, and which rows agree on a member. Propositions in the words of the document, and beside them tests that compute;
--- proofs/View.antt shows that the two say the same.
+-- Agreement, dependency, key and minimal ("Agreement", and demand 2), over what a target shows of itself: how many
+-- rows, how many members a left side may have, and which rows agree on a member. Propositions in the words of the
+-- document, and beside them tests that compute; proofs/View.antt shows that the two say the same.
 use Prim.Native.Nat.{ℕ, zero, suc, _<_}
 use mathlib.Core.Path.{_≡_}
 use mathlib.Core.Bool.{Bool, true, false, not, _&&_, _||_}
@@ -59,7 +59,8 @@ pub record Minimal (v : View) (x a : ℕ) : Type 0 where
   pub outside : In a x → ⊥
   pub spare : (k : ℕ) → k < v .members → In k x → Holds v (withoutOf x k) a → ⊥
 
--- the same with 'no proper subset holds' for 'no left with a column less': no left within it that lacks one of its members holds
+-- the same with 'no proper subset holds' for 'no left with a column less': no left within it that lacks one of its
+-- members holds
 pub record Least (v : View) (x a : ℕ) : Type 0 where
   pub holds : Holds v x a
   pub outside : In a x → ⊥

@@ -1,8 +1,10 @@
-// What a reader must believe: the declared types of every public call and, in specs/, the definitions of the catalogue, of agreement,
-// dependencies and keys, of the full listing and its calls, and of the packed list. The laws about them stand in proofs/.
+// What a reader must believe: the declared types of every public call and, in specs/, the definitions of the
+// catalogue, of agreement, dependencies and keys, of the full listing and its calls, and of the packed list. The laws
+// about them stand in proofs/.
 // Relies on `columns` for sets of columns and their order. Every other crate cites it.
 
-// The bounds, once in code; specs/Bounds.antt has the same numbers in the definitions. The bound on columns is `columns::COLUMN_BOUND`.
+// The bounds, once in code; specs/Bounds.antt has the same numbers in the definitions. The bound on columns is
+// `columns::COLUMN_BOUND`.
 pub const TABLE_BOUND: u32 = 16;
 
 pub const ROW_BOUND: u32 = 4096;
@@ -27,7 +29,8 @@ pub const ENTRY_BYTES: usize = 4;
 
 pub const TRAILER_BYTES: usize = 8;
 
-// An entry of a listing: in the target table, the left side gives the right side. Laid out as in C, so that hosts can lend runs of them.
+// An entry of a listing: in the target table, the left side gives the right side. Laid out as in C, so that hosts can
+// lend runs of them.
 #[repr(C)]
 pub struct Entry {
     pub target: u8,

@@ -23,7 +23,8 @@ use Rattle.model.specs.declared.Refusal.the-variants.{BadEntry, OutputTooShort}
 use Rattle.entries.specs.Verdict.{badUnless}
 use Rattle.packing.specs.declared.Packing.{Packing}
 use Rattle.packing.specs.Packing.{On, Finished, WritingBegun, ChecksBegun, Steppable, Stepped, steps, stepsOf}
-use Rattle.model.proofs.Grounds.{orElse-both, orElse-first, orElse-next, reply-refused, reply-answered, orElse-zero, orElse-assoc}
+use Rattle.model.proofs.Grounds.{orElse-both, orElse-first, orElse-next, reply-refused, reply-answered, orElse-zero}
+use Rattle.model.proofs.Grounds.{orElse-assoc}
 use Rattle.entries.proofs.Grounds.{no-lt}
 use Rattle.entries.proofs.Checks.{bad-some}
 use Rattle.packing.proofs.Writes.{writes-entry, writes-trailer}
@@ -236,7 +237,8 @@ module _ (es : List Entry) (o : List ℕ) (s : Packing) (out : List ℕ) (k : �
   all-fine : not t ≡ false → k ≤ s .at + 1 → entriesCode es ≡ 0
   all-fine f h = went-on f ∙ all-checked es e (s .at + 1) (omega (arith, on .next g))
 
-  pub step-last : (r : Packing) (out′ : List ℕ) → not t ≡ false → k ≤ s .at + 1 → WritingBegun k out r out′ → On es o r out′
+  pub step-last : (r : Packing) (out′ : List ℕ) → not t ≡ false → k ≤ s .at + 1 → WritingBegun k out r out′
+      → On es o r out′
   step-last r out′ f h y = subst (λ (x : List ℕ). On es x r out′) (on .same g w) (y .on es l (all-fine f h))
 
 -- a step of writing

@@ -1,5 +1,5 @@
-// Not for callers: packing entries one by one. `packed::pack` goes over them twice, to check them and to write them: `begin_checks` begins,
-// `step` goes on with the entry that is to come, until an answer stands.
+// Not for callers: packing entries one by one. `packed::pack` goes over them twice, to check them and to write them:
+// `begin_checks` begins, `step` goes on with the entry that is to come, until an answer stands.
 // Relies on the definitions of `model`, on `file` for numbers in a file and on `entries` for 15. Called by `packed`.
 ghost use Prim.Native.Nat.{_+_, _≤_, _<_};
 ghost use mathlib.Core.Path.{_≡_};
@@ -19,8 +19,8 @@ use model::PackAnswer;
 use model::Refusal;
 use model::TRAILER_BYTES;
 
-// Where packing stands: all entries are checked first, and then written. While it is going on, an entry is to come: whether it is to be
-// written, its index, and the entry before it. Else the answer.
+// Where packing stands: all entries are checked first, and then written. While it is going on, an entry is to come:
+// whether it is to be written, its index, and the entry before it. Else the answer.
 pub struct Packing {
     pub going: bool,
     pub writing: bool,

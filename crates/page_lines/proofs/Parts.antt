@@ -5,14 +5,15 @@ use mathlib.Core.List.{List, [], _∷_, _++_, append-nil}
 use native.Mathlib.Numerals.{add-one}
 use lib.ListN.{length, take, getD}
 use lib.Seq.{take-suc}
-use Rattle.model.specs.Text.{decimal, tablesWord, setsWord, entriesWord, refusedWord, lineFeed, entryText, entryLine, linesOf, headLine, refusedLine}
+use Rattle.model.specs.Text.{decimal, tablesWord, setsWord, entriesWord, refusedWord, lineFeed, entryText, entryLine}
+use Rattle.model.specs.Text.{linesOf, headLine, refusedLine}
 use Rattle.model.specs.declared.Entry.{Entry}
 use Rattle.model.proofs.Text.{lines-append}
 use Rattle.text.specs.Puts.{Puts}
 use Rattle.text.proofs.Puts.{puts-none, puts-both, puts-same}
 
-pub puts-line : (e : Entry) {at : ℕ} {b₀ b₁ b₂ : List ℕ} {n₁ n₂ : ℕ} → Puts (entryText e) at b₀ b₁ n₁ → Puts lineFeed n₁ b₁ b₂ n₂
-    → Puts (entryLine e) at b₀ b₂ n₂
+pub puts-line : (e : Entry) {at : ℕ} {b₀ b₁ b₂ : List ℕ} {n₁ n₂ : ℕ} → Puts (entryText e) at b₀ b₁ n₁
+    → Puts lineFeed n₁ b₁ b₂ n₂ → Puts (entryLine e) at b₀ b₂ n₂
 unfolding entryLine
 puts-line e p q = puts-both (entryText e) lineFeed p q
 
@@ -41,7 +42,8 @@ pub puts-head : (tables sets entries : ℕ) {b₀ b₁ b₂ b₃ b₄ b₅ b₆ 
     → Puts lineFeed n₆ b₆ b₇ n₇ → Puts (headLine tables sets entries) 0 b₀ b₇ n₇
 unfolding headLine
 puts-head tables sets entries p₁ t p₂ s p₃ e p₄ =
-    puts-both tablesWord (decimal tables ++ (setsWord ++ (decimal sets ++ (entriesWord ++ (decimal entries ++ lineFeed))))) p₁
+    puts-both tablesWord (decimal tables
+    ++ (setsWord ++ (decimal sets ++ (entriesWord ++ (decimal entries ++ lineFeed))))) p₁
     (puts-both (decimal tables) (setsWord ++ (decimal sets ++ (entriesWord ++ (decimal entries ++ lineFeed)))) t
     (puts-both setsWord (decimal sets ++ (entriesWord ++ (decimal entries ++ lineFeed))) p₂
     (puts-both (decimal sets) (entriesWord ++ (decimal entries ++ lineFeed)) s
@@ -50,4 +52,5 @@ puts-head tables sets entries p₁ t p₂ s p₃ e p₄ =
 pub puts-refused : (number : ℕ) {b₀ b₁ b₂ b₃ : List ℕ} {n₁ n₂ n₃ : ℕ} → Puts refusedWord 0 b₀ b₁ n₁
     → Puts (decimal number) n₁ b₁ b₂ n₂ → Puts lineFeed n₂ b₂ b₃ n₃ → Puts (refusedLine number) 0 b₀ b₃ n₃
 unfolding refusedLine
-puts-refused number p n q = puts-both refusedWord (decimal number ++ lineFeed) p (puts-both (decimal number) lineFeed n q)
+puts-refused number p n q =
+    puts-both refusedWord (decimal number ++ lineFeed) p (puts-both (decimal number) lineFeed n q)

@@ -1,5 +1,5 @@
--- What a listing call with a run by value gives on an accepted catalogue, from a place up to the last and with a budget for all sets: it is
--- never refused, and its first records are the entries of the sets that it passed.
+-- What a listing call with a run by value gives on an accepted catalogue, from a place up to the last and with a
+-- budget for all sets: it is never refused, and its first records are the entries of the sets that it passed.
 use Prim.Native.Nat.{ℕ, suc, _+_, _-_, _≤_, _<_}
 use mathlib.Core.Path.{_≡_, sym, ap, subst, _∙_}
 use mathlib.Core.List.{List, [], _∷_, _++_}
@@ -55,7 +55,8 @@ answered-is p k c p′ k′ c′ e = (cc, cc)
 refused-is-none : (n : ℕ) (vs : List ℕ) → refused n ≡ answered vs → ⊥
 refused-is-none n vs e = let z : _≡_ {A = ℕ} 0 1 = cc in omega arith
 
-first-records : (c r : ℕ) (es rest run : List Entry) → take r run ≡ es ++ rest → c ≡ length es → length es ≤ r → take c run ≡ es
+first-records : (c r : ℕ) (es rest run : List Entry) → take r run ≡ es ++ rest → c ≡ length es → length es ≤ r
+    → take c run ≡ es
 first-records c r es rest run e l h =
     sym (take-take c r run (omega arith)) ∙ ap (take c) e ∙ take-at es rest c (sym l)
 
@@ -66,7 +67,8 @@ module _ (cat : List ℕ) (last : ℕ) (h : Listable cat last) (place : ℕ) (in
 
   -- the statement about the call, with room for r records
   abbrev Call : ListAnswer → List Entry → List ℕ → Type 0
-  Call a run workThen = ListMeaning cat (seen place last (replicate r (entry 0 0 0)) work (listReply a) (take r run) workThen)
+  Call a run workThen =
+      ListMeaning cat (seen place last (replicate r (entry 0 0 0)) work (listReply a) (take r run) workThen)
 
   lastly : last ≡ length cs
   lastly = h .whole ∙ sym (cells-length cat)
@@ -75,15 +77,18 @@ module _ (cat : List ℕ) (last : ℕ) (h : Listable cat last) (place : ℕ) (in
   places = omega (arith, lastly)
 
   wide : (p : ℕ) → length (getD cs p []) ≤ length (replicate r (entry 0 0 0))
-  wide p = omega (arith, cell-short (ordinary cat) (ordinary-bounded cat (h .accepted)) p, length-replicate r (entry 0 0 0))
+  wide p =
+      omega (arith, cell-short (ordinary cat) (ordinary-bounded cat (h .accepted)) p, length-replicate r (entry 0 0 0))
 
   -- nothing stands against it
   no-code : listCode cat place last (length (replicate r (entry 0 0 0))) (length work) ≡ 0
   no-code =
-      after-none (checkCode cat) (h .accepted) (cells (ordinary cat)) place last (length (replicate r (entry 0 0 0))) (length work)
+      after-none (checkCode cat) (h .accepted) (cells (ordinary cat)) place last (length (replicate r (entry 0 0 0)))
+      (length work)
       ∙ call-none cs place last (length (replicate r (entry 0 0 0))) (length work) enough places (λ _ _. wide place)
 
-  pub never-refused : (why : Refusal) (run : List Entry) (workThen : List ℕ) → Call (answer.Refused why) run workThen → ⊥
+  pub never-refused : (why : Refusal) (run : List Entry) (workThen : List ℕ) → Call (answer.Refused why) run workThen
+      → ⊥
   never-refused why run workThen o = refused-is-none (number why) _ (o .reply ∙ sym (reply-answered _ no-code))
 
   abbrev rows : List Entry
@@ -96,7 +101,8 @@ module _ (cat : List ℕ) (last : ℕ) (h : Listable cat last) (place : ℕ) (in
       → Call (answer.Listed reached k count) run workThen → Ran cs last place reached count run
   unfolding written
   ran-room reached k count run workThen small o =
-      let said = answered-is reached k count (place + passes) passes (length (written last (length rows) (drop place cs)))
+      let said =
+      answered-is reached k count (place + passes) passes (length (written last (length rows) (drop place cs)))
       (o .reply ∙ sym (reply-answered _ no-code)) in
       let long = length-replicate r (entry 0 0 0) in
       let few = written-fits last (length rows) (drop place cs) in
@@ -108,16 +114,20 @@ module _ (cat : List ℕ) (last : ℕ) (h : Listable cat last) (place : ℕ) (in
         sets = passes;
         reaches = p;
         inRange = omega (arith, places, lastly);
-        rises = λ l. omega (arith, passed-fit-at last (length rows) place cs (omega (arith, lastly)) (omega arith) (wide place));
+        rises =
+            λ l. omega
+            (arith, passed-fit-at last (length rows) place cs (omega (arith, lastly)) (omega arith) (wide place));
         fits = omega arith;
         counted = c;
-        records = first-records count r (flat (take passes (drop place cs))) _ run (o .run ∙ run-answered _ _ _ no-code) c (omega arith);
+        records = first-records count r (flat (take passes (drop place cs))) _ run (o .run ∙ run-answered _ _ _ no-code)
+            c (omega arith);
       }
 
 -- the same for the run by value, where the statement is that of its contract
 module _ (cat : List ℕ) (last : ℕ) (h : Listable cat last) (place : ℕ) (inRange : place ≤ last) (work : List ℕ)
     (enough : workBound ≤ length work) where
-  filled-call : (a : ListAnswer) (run : List Entry) (workThen : List ℕ) → FilledBy cat place last runBound work a run workThen
+  filled-call : (a : ListAnswer) (run : List Entry) (workThen : List ℕ)
+      → FilledBy cat place last runBound work a run workThen
       → Call cat last h place inRange work enough (cap runBound) (omega (arith, room-whole)) a run workThen
   filled-call a run workThen f = f .listed
 
@@ -125,20 +135,22 @@ module _ (cat : List ℕ) (last : ℕ) (h : Listable cat last) (place : ℕ) (in
       → FilledBy cat place last runBound work a run workThen → a ≡ answer.Refused why → ⊥
   filled-answers why a run workThen f e =
       never-refused cat last h place inRange work enough (cap runBound) (omega (arith, room-whole)) why run workThen
-      (filled-call (answer.Refused why) run workThen (subst (λ (x : ListAnswer). FilledBy cat place last runBound work x run workThen) e f))
+      (filled-call (answer.Refused why) run workThen
+      (subst (λ (x : ListAnswer). FilledBy cat place last runBound work x run workThen) e f))
 
   pub ran : (reached k count : ℕ) (a : ListAnswer) (run : List Entry) (workThen : List ℕ)
       → FilledBy cat place last runBound work a run workThen → a ≡ answer.Listed reached k count
       → Ran (cells (ordinary cat)) last place reached count run
   ran reached k count a run workThen f e =
-      ran-room cat last h place inRange work enough (cap runBound) (omega (arith, room-whole)) reached k count run workThen
+      ran-room cat last h place inRange work enough (cap runBound) (omega (arith, room-whole)) reached k count run
+      workThen
       (omega (arith, room-whole))
       (filled-call (answer.Listed reached k count) run workThen
       (subst (λ (x : ListAnswer). FilledBy cat place last runBound work x run workThen) e f))
 
 -- the records that are entries are among those of the run
-pub ran-within : (cs : List (List Entry)) (last place reached count : ℕ) (run : List Entry) → Ran cs last place reached count run
-    → count ≤ length run
+pub ran-within : (cs : List (List Entry)) (last place reached count : ℕ) (run : List Entry)
+    → Ran cs last place reached count run → count ≤ length run
 ran-within cs last place reached count run g =
     let counted = g .counted in
     omega (arith, length-take count run, ap length (g .records))

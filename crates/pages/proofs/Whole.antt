@@ -58,7 +58,9 @@ module _ (cat : List ℕ) (last : ℕ) (h : Listable cat last) where
   rest-is : (place : ℕ) → rest cat place last ≡ linesOf (flat (drop place cs))
   unfolding rest linesOf
   rest-is place =
-      ⊎-elim (λ l. ifLt-no _ l ∙ sym (ap (λ (ds : List (List Entry)). linesOf (flat ds)) (drop-of-length-le cs {i = place} (omega (arith, lastly)))))
+      ⊎-elim (λ l. ifLt-no _ l
+      ∙ sym (ap (λ (ds : List (List Entry)). linesOf (flat ds))
+      (drop-of-length-le cs {i = place} (omega (arith, lastly)))))
       (λ l. ifLt-yes _ l) (le-or-lt last place)
 
   -- the lines of a run, and then what is still to come behind it
@@ -104,8 +106,9 @@ module _ (cat : List ℕ) (last : ℕ) (h : Listable cat last) where
       }
 
   -- the page behind another
-  pub paged-next : (place reached count : ℕ) (run : List Entry) {b d : List ℕ} {n : ℕ} → Ran cs last place reached count run
-      → Puts (linesOf (take count run)) 0 b d n → pageBound ≤ length b → Paged cat (rest cat place last) d (page n reached last)
+  pub paged-next : (place reached count : ℕ) (run : List Entry) {b d : List ℕ} {n : ℕ}
+      → Ran cs last place reached count run → Puts (linesOf (take count run)) 0 b d n → pageBound ≤ length b
+      → Paged cat (rest cat place last) d (page n reached last)
   paged-next place reached count run {b} {d} {n} g q room =
       paged-run [] (rest cat place last) place reached count run g
       (record { same = refl; bytes = λ _. refl; behind = λ _. refl }) q (omega arith) room (sym (rest-is place))
@@ -119,7 +122,8 @@ module _ (cat : List ℕ) (last : ℕ) (h : Listable cat last) where
       let all : length (flat ds) ≡ length (flat (take (g .sets) ds)) + length (flat (drop (g .sets) ds)) =
       ap length (flat-from (g .sets) ds) ∙ length-append (flat (take (g .sets) ds)) (flat (drop (g .sets) ds)) in
       let same : length (flat (drop reached cs)) ≡ length (flat (drop (g .sets) ds)) =
-      ap (λ (es : List (List Entry)). length (flat es)) (ap (λ (n : ℕ). drop n cs) (g .reaches) ∙ sym (drop-drop (g .sets) place cs)) in
+      ap (λ (es : List (List Entry)). length (flat es))
+      (ap (λ (n : ℕ). drop n cs) (g .reaches) ∙ sym (drop-drop (g .sets) place cs)) in
       omega arith
 
   -- at the last place nothing is left to count
@@ -132,20 +136,23 @@ module _ (cat : List ℕ) (last : ℕ) (h : Listable cat last) where
   counted-few place = omega (arith, flat-drop-le place cs, entries-few cat (h .accepted), sets-few cat (h .accepted))
 
   -- the first page of a listing
-  pub paged-head : (reached count t entries : ℕ) (run : List Entry) {b c d : List ℕ} {m n : ℕ} → Ran cs last 0 reached count run
+  pub paged-head : (reached count t entries : ℕ) (run : List Entry) {b c d : List ℕ} {m n : ℕ}
+      → Ran cs last 0 reached count run
       → t ≡ tables cat → entries ≡ count + length (flat (drop reached cs)) → Puts (headLine t last entries) 0 b c m
-      → Puts (linesOf (take count run)) m c d n → pageBound ≤ length b → Paged cat (listingText cat) d (page n reached last)
+      → Puts (linesOf (take count run)) m c d n → pageBound ≤ length b
+      → Paged cat (listingText cat) d (page n reached last)
   unfolding listingText
   paged-head reached count t entries run {b} {c} {d} {m} {n} g tabled e p q room =
       let is : headLine t last entries ≡ headLine (tables cat) (sets cat) (length (flat cs)) =
       ap (λ (k : ℕ). headLine k last entries) tabled
       ∙ ap₂ (headLine (tables cat)) (h .whole) (e ∙ counted-more 0 reached count run g) in
-      paged-run (headLine (tables cat) (sets cat) (length (flat cs))) (listingText cat) 0 reached count run g (puts-same is p) q
+      paged-run (headLine (tables cat) (sets cat) (length (flat cs))) (listingText cat) 0 reached count run g
+      (puts-same is p) q
       (omega (arith, head-short cat (h .accepted))) room refl
 
 -- the bytes written of a page, and what is still to come, are as many as the text has
-pub paged-counts : (cat text out : List ℕ) (p : Page) (r : ℕ) → Paged cat text out p → r ≡ ifLe (p .len) (length out) (p .len) 0
-    → r + length (rest cat (p .place) (p .last)) ≡ length text
+pub paged-counts : (cat text out : List ℕ) (p : Page) (r : ℕ) → Paged cat text out p
+    → r ≡ ifLe (p .len) (length out) (p .len) 0 → r + length (rest cat (p .place) (p .last)) ≡ length text
 paged-counts cat text out p r g e =
     let within = g .within in
     omega (

@@ -1,6 +1,7 @@
-// Not for callers: what the listing program prints, page by page: a page is the lines of one run of entries, and the first one has the head line
-// before them.
-// Relies on `listing` for the entries, on `grounds` and `layout` for the check and on `page_lines` for what is put. Called by `list`.
+// Not for callers: what the listing program prints, page by page: a page is the lines of one run of entries, and the
+// first one has the head line before them.
+// Relies on `listing` for the entries, on `grounds` and `layout` for the check and on `page_lines` for what is put.
+// Called by `list`.
 ghost use Prim.Native.Nat.{_+_, _≤_, _<_};
 ghost use mathlib.Core.Path.{_≡_};
 ghost use lib.ListN.{length, drop};
@@ -17,7 +18,8 @@ use page_lines::put_head;
 use page_lines::put_refused;
 use page_lines::put_run;
 
-// How many bytes stand at the start of the buffer, and from which place on the lines are still to come: none at the last place.
+// How many bytes stand at the start of the buffer, and from which place on the lines are still to come: none at the
+// last place.
 pub struct Page {
     pub len: usize,
     pub place: u32,
@@ -51,8 +53,8 @@ fn count_from(cat: &[u8], place: u32, last: u32, before: u32, work: &mut [u32]) 
     sum
 }
 
-// The head line and the lines of the first run. The entries of the first call are kept, so a listing that fits one run is made once; where
-// there are more, the rest is counted before the head line.
+// The head line and the lines of the first run. The entries of the first call are kept, so a listing that fits one
+// run is made once; where there are more, the rest is counted before the head line.
 fn head_page(cat: &[u8], last: u32, out: &mut [u8], work: &mut [u32]) -> Page
     requires { ⌜ Listable (now cat) last ⌝ }
     requires { ⌜ Lent (now out) (now work) ⌝ }
@@ -113,7 +115,8 @@ pub fn next_page(cat: &[u8], page: Page, out: &mut [u8], work: &mut [u32]) -> Pa
     requires { ⌜ page .place < page .last ⌝ }
     requires { ⌜ Listable (now cat) (page .last) ⌝ }
     requires { ⌜ Lent (now out) (now work) ⌝ }
-    ensures text { λ r. ⌜ Paged (now (cat .entry)) (rest (now (cat .entry)) (page .place) (page .last)) (now (out .exit)) r ⌝ }
+    ensures text { λ r. ⌜ Paged (now (cat .entry)) (rest (now (cat .entry)) (page .place) (page .last))
+        (now (out .exit)) r ⌝ }
     ensures onward { λ r. ⌜ page .place < r .place ⌝ }
     ensures same { λ r. ⌜ r .last ≡ page .last ⌝ }
 {

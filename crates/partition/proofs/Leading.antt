@@ -1,5 +1,5 @@
--- Leaders on a left side, member by member: by no member row 0 leads all, a member more is joined by one number a row, and once every row leads itself it
--- does so by any more members.
+-- Leaders on a left side, member by member: by no member row 0 leads all, a member more is joined by one number a
+-- row, and once every row leads itself it does so by any more members.
 use Prim.Native.Nat.{ℕ, suc, _-_, _≤_, _<_}
 use mathlib.Core.Path.{_≡_, refl, sym, ap₂, subst, _∙_}
 use mathlib.Core.Logic.{_↔_}
@@ -40,8 +40,8 @@ module _ (keys : List ℕ) (end x : ℕ) where
     λ h j l i. at h j l i (ℕ-discrete j k),
   )
     where
-      at : AgreeOn (keyView keys k end) x p q × (In k x → keyAt keys k p ≡ keyAt keys k q) → (j : ℕ) → j < suc k → In j x
-          → Dec (j ≡ k) → T (eqb (keyAt keys j p) (keyAt keys j q))
+      at : AgreeOn (keyView keys k end) x p q × (In k x → keyAt keys k p ≡ keyAt keys k q) → (j : ℕ) → j < suc k
+          → In j x → Dec (j ≡ k) → T (eqb (keyAt keys j p) (keyAt keys j q))
       at h j l i (yes e) =
           subst (λ (j : ℕ). T (eqb (keyAt keys j p) (keyAt keys j q))) (sym e)
           (eqb-is (keyAt keys k p) (keyAt keys k q) .1 (h .1 (subst (λ (j : ℕ). In j x) e i)))
@@ -80,7 +80,8 @@ module _ (keys : List ℕ) (end x : ℕ) where
         same : (q : ℕ) → leaderOf (keyView keys k end) x q ≡ leaderOf (keyView keys (suc k) end) x q
         same q =
             let leader = leader-is (keyView keys k end) (key-equivalence keys k end) x q in
-            leader-unique (keyView keys (suc k) end) (key-equivalence keys (suc k) end) x q (leaderOf (keyView keys k end) x q)
+            leader-unique (keyView keys (suc k) end) (key-equivalence keys (suc k) end) x q
+            (leaderOf (keyView keys k end) x q)
             (record {
               reached = leader .reached;
               agrees = agree-more k (leaderOf (keyView keys k end) x q) q .1 (leader .agrees, λ i. absurd (n i));
@@ -89,7 +90,8 @@ module _ (keys : List ℕ) (end x : ℕ) where
 
     -- one that it has is joined
     pub led-joined : (ws after : List ℕ) (r : ℕ) → In k x
-        → ((q : ℕ) → q < end → (keyAt keys k q < keyBound) × (getD ws q 0 ≡ leaderWord (getD leaders q 0) (keyAt keys k q)))
+        → ((q : ℕ) → q < end → (keyAt keys k q < keyBound)
+        × (getD ws q 0 ≡ leaderWord (getD leaders q 0) (keyAt keys k q)))
         → Grouped ws end after r → Led keys (suc k) end x after r
     led-joined ws after r i words g = record {
       long = g .long;

@@ -1,4 +1,5 @@
--- What a left side gives, by its leaders; and its minimal rights: those that it gives and that need each of its members.
+-- What a left side gives, by its leaders; and its minimal rights: those that it gives and that need each of its
+-- members.
 use Prim.Native.Nat.{ℕ, suc, _-_, _%_, _^_, _≤_, _<_}
 use mathlib.Core.Path.{_≡_, refl, sym, ap, subst, _∙_}
 use mathlib.Core.Logic.{_↔_}
@@ -40,7 +41,8 @@ test-is true c h = sym (h .0 refl)
 test-is false true h = h .1 refl
 test-is false false h = refl
 
-module _ (keys : List ℕ) (n end x : ℕ) (leaders : List ℕ) (followers : ℕ) (few : n ≤ columnBound) (led : Led keys n end x leaders followers) where
+module _ (keys : List ℕ) (n end x : ℕ) (leaders : List ℕ) (followers : ℕ) (few : n ≤ columnBound)
+    (led : Led keys n end x leaders followers) where
   -- the row
   pub alone-key : (followers ≡ 0) ↔ (holds (keyView keys n end) x row ≡ true)
   alone-key =
@@ -66,7 +68,8 @@ module _ (keys : List ℕ) (n end x : ℕ) (leaders : List ℕ) (followers : ℕ
           λ e q m.
               ap (keyAt keys a) (led .leads q m)
               ∙ eqb-is (keyAt keys a (leaderOf (keyView keys n end) x q)) (keyAt keys a q) .0
-              (subst T (on-member (leaderOf (keyView keys n end) x q) q) (h .0 (holds-true (keyView keys n end) x a e) q m)),
+              (subst T (on-member (leaderOf (keyView keys n end) x q) q)
+              (h .0 (holds-true (keyView keys n end) x a e) q m)),
         )
 
     pub gives-holds : (r : Bool) → (r ≡ true) ↔ Gives keys leaders a end → holds (keyView keys n end) x a ≡ r
@@ -91,11 +94,13 @@ module _ (keys : List ℕ) (n end x : ℕ) (leaders : List ℕ) (followers : ℕ
           let b = bit-below wanted a (suc n) l in
           (λ i. (sym b ∙ i, omega arith, alone-gives e (rightAt n a)), λ f. b ∙ f .0)
       at (no g) = (
-        λ i. absurd (omega (arith, bit-past (wanted % 2 ^ suc n) (suc n) a (mod-lt wanted (pow-pos (suc n))) (omega arith))),
+        λ i. absurd
+            (omega (arith, bit-past (wanted % 2 ^ suc n) (suc n) a (mod-lt wanted (pow-pos (suc n))) (omega arith))),
         λ f. absurd (omega (arith, f .1)),
       )
 
-  pub given-some : (wanted r : ℕ) → (followers ≡ 0 → ⊥) → GivenBelow keys leaders end wanted n r → Given keys n end x wanted r
+  pub given-some : (wanted r : ℕ) → (followers ≡ 0 → ⊥) → GivenBelow keys leaders end wanted n r
+      → Given keys n end x wanted r
   given-some wanted r other below a = (
     λ i.
         let f = below .members a .0 i in
@@ -107,7 +112,8 @@ module _ (keys : List ℕ) (n end x : ℕ) (leaders : List ℕ) (followers : ℕ
       column : a < n → rightAt n a ≡ a
       column l = right-column n a (λ e. omega arith)
 
-      at : (bit wanted a ≡ 1) × (a ≤ n) × (holds (keyView keys n end) x (rightAt n a) ≡ true) → Dec (a < n) → bit r a ≡ 1
+      at : (bit wanted a ≡ 1) × (a ≤ n) × (holds (keyView keys n end) x (rightAt n a) ≡ true) → Dec (a < n)
+          → bit r a ≡ 1
       at f (yes l) =
           below .members a .1 (l, f .0, gives-is a l .1 (sym (ap (holds (keyView keys n end) x) (column l)) ∙ f .2))
       at f (no g) =
@@ -136,11 +142,13 @@ module _ (keys leaders : List ℕ) (end wanted : ℕ) where
         → GivenBelow keys leaders end wanted (suc a) (bitOr r p)
     below-added p is w g = record {
       members = λ j.
-          subst (λ (p : ℕ). (bit (bitOr r p) j ≡ 1) ↔ ((j < suc a) × (bit wanted j ≡ 1) × Gives keys leaders j end)) (sym is)
+          subst (λ (p : ℕ). (bit (bitOr r p) j ≡ 1) ↔ ((j < suc a) × (bit wanted j ≡ 1) × Gives keys leaders j end))
+          (sym is)
           (at j (ℕ-discrete j a));
     }
       where
-        at : (j : ℕ) → Dec (j ≡ a) → (bit (bitOr r (2 ^ a)) j ≡ 1) ↔ ((j < suc a) × (bit wanted j ≡ 1) × Gives keys leaders j end)
+        at : (j : ℕ) → Dec (j ≡ a) → (bit (bitOr r (2 ^ a)) j ≡ 1)
+            ↔ ((j < suc a) × (bit wanted j ≡ 1) × Gives keys leaders j end)
         at j (yes e) = (
           λ i. (
             omega arith,
@@ -162,7 +170,8 @@ module _ (keys leaders : List ℕ) (end wanted : ℕ) where
         same = omega arith
 
 -- the rights of x that need each of its members are the minimal ones
-module _ (keys : List ℕ) (n end x own : ℕ) (few : n ≤ columnBound) (small : x < 2 ^ n) (asked : own < 2 ^ suc n) (start r : ℕ)
+module _ (keys : List ℕ) (n end x own : ℕ) (few : n ≤ columnBound) (small : x < 2 ^ n) (asked : own < 2 ^ suc n)
+    (start r : ℕ)
     (given : Given keys n end x (lackingOf own x) start)
     (kept : (a : ℕ) → (bit r a ≡ 1) ↔ ((bit start a ≡ 1) × Needs keys n end x n a)) where
   needed-minimal : (a : ℕ) → a ≤ n → (bit r a ≡ 1) ↔ ((bit own a ≡ 1) × Minimal (keyView keys n end) x (rightAt n a))

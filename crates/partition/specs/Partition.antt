@@ -20,7 +20,8 @@ keyBound = 65536
 abbrev pub leaderWord : ℕ → ℕ → ℕ
 leaderWord leader key = leader * keyBound + key
 
--- each row below `end` has its leader on the left side x by the first n members, and r is 0 exactly if each leads itself
+-- each row below `end` has its leader on the left side x by the first n members, and r is 0 exactly if each leads
+-- itself
 pub record Led (keys : List ℕ) (n end x : ℕ) (leaders : List ℕ) (r : ℕ) : Type 0 where
   pub long : length leaders ≡ rowBound
   pub leads : (q : ℕ) → q < end → getD leaders q 0 ≡ leaderOf (keyView keys n end) x q

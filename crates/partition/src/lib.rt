@@ -1,7 +1,8 @@
-// Not for callers: the partition of the rows by a left side, from keys alone. The rows that agree on the left side have one leader, and the left side
-// gives a right exactly if every row agrees with its leader there: one pass over the rows for each member and each right, and none over pairs of rows.
-// Relies on `grouping` for the leaders by one number a row, on the laws of `leaders` and `filled`, and on `table` for sets of rights. Called by `rights`,
-// `search` and `dependency`.
+// Not for callers: the partition of the rows by a left side, from keys alone. The rows that agree on the left side
+// have one leader, and the left side gives a right exactly if every row agrees with its leader there: one pass over
+// the rows for each member and each right, and none over pairs of rows.
+// Relies on `grouping` for the leaders by one number a row, on the laws of `leaders` and `filled`, and on `table` for
+// sets of rights. Called by `rights`, `search` and `dependency`.
 ghost use mathlib.Core.Path.{_≡_};
 ghost use mathlib.Core.Logic.{_↔_};
 ghost use mathlib.Core.Bool.{true};
@@ -14,7 +15,8 @@ ghost use Rattle.model.specs.Bounds.{rowBound};
 ghost use Rattle.model.specs.View.{In};
 ghost use Rattle.table.specs.Broken.{minimalMask};
 ghost use Rattle.leaders.specs.Keys.{keyView};
-ghost use Rattle.partition.specs.Partition.{keyBound, leaderWord, Led, MemberJoined, Back, Gives, GivenBelow, Given, Spares};
+ghost use Rattle.partition.specs.Partition.{keyBound, leaderWord, Led, MemberJoined, Back, Gives, GivenBelow};
+ghost use Rattle.partition.specs.Partition.{Given, Spares};
 use bits::power;
 use grouping::group;
 use leaders::ROWS;
@@ -47,7 +49,8 @@ fn word(leader: u16, key: u16) -> u64
     leader as u64 * KEY_BOUND + key as u64
 }
 
-// One member more: rows have the same leader if they had the same one before and have the same key on member k. Answers as `leaders_of`.
+// One member more: rows have the same leader if they had the same one before and have the same key on member k.
+// Answers as `leaders_of`.
 fn join(keys: &[u16; SIZE], k: u32, end: usize, leaders: &mut [u16; ROWS]) -> usize
     requires { ⌜ k < columnBound ⌝ }
     requires { ⌜ end ≤ rowBound ⌝ }
@@ -86,7 +89,8 @@ fn join_if(
     join(keys, k, end, leaders)
 }
 
-// The leaders of all rows on the left side x. It answers 0 exactly if every row leads itself, and ends as soon as every row does.
+// The leaders of all rows on the left side x. It answers 0 exactly if every row leads itself, and ends as soon as
+// every row does.
 pub fn leaders_of(
     keys: &[u16; SIZE],
     n: u32,
@@ -171,7 +175,8 @@ fn given_members(keys: &[u16; SIZE], leaders: &[u16; ROWS], n: u32, end: usize, 
     given
 }
 
-// Of the rights wanted, bit a for member a and bit n for the row, those that the left side x gives. Where every row leads itself, x gives them all.
+// Of the rights wanted, bit a for member a and bit n for the row, those that the left side x gives. Where every row
+// leads itself, x gives them all.
 pub fn given(keys: &[u16; SIZE], n: u32, end: usize, x: u32, wanted: u32) -> u32
     requires { ⌜ n ≤ columnBound ⌝ }
     requires { ⌜ end ≤ rowBound ⌝ }
@@ -198,7 +203,8 @@ fn needing(keys: &[u16; SIZE], n: u32, end: usize, x: u32, k: u32, rights: u32) 
     lacking(rights, given(keys, n, end, x - power(k), rights))
 }
 
-// The minimal rights of one left side, of those asked for: x gives them, and does not with a member less. It ends early once no right is left.
+// The minimal rights of one left side, of those asked for: x gives them, and does not with a member less. It ends
+// early once no right is left.
 pub fn minimal_alone(keys: &[u16; SIZE], n: u32, end: usize, own: u32, x: u32) -> u32
     requires { ⌜ n ≤ columnBound ⌝ }
     requires { ⌜ end ≤ rowBound ⌝ }

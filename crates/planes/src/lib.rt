@@ -1,6 +1,7 @@
-// Not for callers: planes of bits, for calls that are lent less than one word for each left side. The seeds are the agree
-// sets, and a plane says for one right which left sides do not give it.
-// Relies on the definitions of `model` and `columns`, and on `table` for the closing. Called by `blocks`; `scan` makes the seeds.
+// Not for callers: planes of bits, for calls that are lent less than one word for each left side. The seeds are the
+// agree sets, and a plane says for one right which left sides do not give it.
+// Relies on the definitions of `model` and `columns`, and on `table` for the closing. Called by `blocks`; `scan`
+// makes the seeds.
 ghost use Prim.Native.Nat.{_-_, _/_, _^_, _≤_, _<_};
 ghost use mathlib.Core.Path.{_≡_};
 ghost use mathlib.Core.Bool.{true};

@@ -55,8 +55,8 @@ module _ (v : View) where
   holds-table n words e l h = record { fits = subst (λ (m : ℕ). 2 ^ m ≤ length words) (sym e) l; table = h }
 
   -- the words hold the seeds, and no pair
-  pub holds-seeds : (own n : ℕ) (words : List ℕ) → v .members ≡ n → 5 ≤ n → seedWords n + 4 ≤ length words → Sown v n words
-      → word words (seedWords n + 1) ≡ 0 → Seeded v own words
+  pub holds-seeds : (own n : ℕ) (words : List ℕ) → v .members ≡ n → 5 ≤ n → seedWords n + 4 ≤ length words
+      → Sown v n words → word words (seedWords n + 1) ≡ 0 → Seeded v own words
   holds-seeds own n words e h l sown none =
       record {
         wide = omega arith;
@@ -126,15 +126,16 @@ module _ (l : Listing) (target : ℕ) where
 
 -- the keys of all members of a table, and its rights
 module _ (cat : List ℕ) (target : ℕ) where
-  pub keyed-rows : {set n end : ℕ} {keys : List ℕ} → end ≡ rows cat target → Keyed (view cat target) set n (rows cat target) keys
-      → Keyed (view cat target) set n end keys
+  pub keyed-rows : {set n end : ℕ} {keys : List ℕ} → end ≡ rows cat target
+      → Keyed (view cat target) set n (rows cat target) keys → Keyed (view cat target) set n end keys
   keyed-rows {set} {n} {keys = keys} e keyed = subst (λ (m : ℕ). Keyed (view cat target) set n m keys) (sym e) keyed
 
   pub laid-all : (n m : ℕ) (keys : List ℕ) → Accepted cat → target < tables cat → n ≡ visible cat target → m ≡ 2 ^ n
       → LaidFor (view cat target) (m - 1) keys → Keyed (view cat target) (2 ^ n - 1) n (rows cat target) keys
   laid-all n m keys ok l e f laid =
       subst (λ (k : ℕ). Keyed (view cat target) (2 ^ n - 1) k (rows cat target) keys) (sym e)
-      (laid-catalogue cat target (2 ^ n - 1) keys ok l (subst (λ (k : ℕ). LaidFor (view cat target) (k - 1) keys) f laid))
+      (laid-catalogue cat target (2 ^ n - 1) keys ok l
+      (subst (λ (k : ℕ). LaidFor (view cat target) (k - 1) keys) f laid))
 
   pub own-fits : {n own : ℕ} → n ≡ visible cat target → own ≡ ownRights cat target → own < 2 ^ suc n
   own-fits {n} {own} e f =

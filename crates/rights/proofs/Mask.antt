@@ -1,5 +1,5 @@
--- Laws of the entries that a number of rights stands for: the listed rights give the entries of the listing, there is one for each bit that
--- is 1, and the lowest bit is the first of them.
+-- Laws of the entries that a number of rights stands for: the listed rights give the entries of the listing, there is
+-- one for each bit that is 1, and the lowest bit is the first of them.
 use Prim.Native.Nat.{ℕ, zero, suc, _+_, _-_, _/_, _%_, _^_, _≤_, _<_}
 use mathlib.Core.Path.{_≡_, refl, sym, ap, ap₂, _∙_}
 use mathlib.Core.Logic.{_⊎_, inl, inr}
@@ -70,7 +70,8 @@ module _ (t x n m : ℕ) where
       in-count (suc n) 0 (rw (zero-add (suc n)) h) ∙ ap ones (div-one m)
 
 -- numbers with the same bits from k on
-in-same : (t x n m o : ℕ) (j k : ℕ) → ((a : ℕ) → k ≤ a → bit m a ≡ bit o a) → entriesIn t x n m j k ≡ entriesIn t x n o j k
+in-same : (t x n m o : ℕ) (j k : ℕ) → ((a : ℕ) → k ≤ a → bit m a ≡ bit o a)
+    → entriesIn t x n m j k ≡ entriesIn t x n o j k
 unfolding entriesIn
 in-same t x n m o zero k e = refl
 in-same t x n m o (suc j) k e =
@@ -91,7 +92,8 @@ module _ (t x n m k : ℕ) (is : bit m k ≡ 1) (none : (a : ℕ) → a < k → 
   first (suc d) s (suc w) e f h =
       in-no t x n m w s (none s (omega arith)) ∙ first d (suc s) w (omega arith) (omega arith) h
       ∙ ap (λ (l : List Entry). entry t x (rightAt n k) ∷ l)
-      (sym (in-no t x n (withoutOf m k) w s (bit-without-other m s k (λ (p : s ≡ k). omega arith) ∙ none s (omega arith))))
+      (sym (in-no t x n (withoutOf m k) w s
+      (bit-without-other m s k (λ (p : s ≡ k). omega arith) ∙ none s (omega arith))))
 
   pub entries-first : k ≤ n → entriesOfMask t x n m ≡ entry t x (rightAt n k) ∷ entriesOfMask t x n (m - 2 ^ k)
   unfolding entriesOfMask
@@ -107,8 +109,10 @@ lowest-in zero m p h = absurd (omega arith)
 lowest-in (suc w) m p h = at (m % 2) refl (λ (q : 0 < m / 2). lowest-in w (m / 2) q (omega (arith, two-pow-succ w)))
   where
     at : (d : ℕ) → m % 2 ≡ d
-        → (0 < m / 2 → (bit (m / 2) (trailingZeros w (m / 2)) ≡ 1) × ((a : ℕ) → a < trailingZeros w (m / 2) → bit (m / 2) a ≡ 0))
-        → (bit m (under d (trailingZeros w (m / 2))) ≡ 1) × ((a : ℕ) → a < under d (trailingZeros w (m / 2)) → bit m a ≡ 0)
+        → (0 < m / 2 → (bit (m / 2) (trailingZeros w (m / 2)) ≡ 1)
+        × ((a : ℕ) → a < trailingZeros w (m / 2) → bit (m / 2) a ≡ 0))
+        → (bit m (under d (trailingZeros w (m / 2))) ≡ 1)
+        × ((a : ℕ) → a < under d (trailingZeros w (m / 2)) → bit m a ≡ 0)
     at zero e ih =
         let i = ih (omega arith) in
         (bit-suc m (trailingZeros w (m / 2)) ∙ i .0, below (i .1))
@@ -135,7 +139,8 @@ module _ (t x n m : ℕ) (some : 0 < m) (below : m < 2 ^ suc n) (word : m < 2 ^ 
   -- what the number stands for is the entry of its lowest bit, and then what it stands for without that bit
   pub entries-lowest : entriesOfMask t x n m ≡ entry t x (rightAt n (lowest m)) ∷ entriesOfMask t x n (m - 2 ^ lowest m)
   unfolding lowest
-  entries-lowest = entries-first t x n m (lowest m) (lowest-in 32 m some word .0) (lowest-in 32 m some word .1) lowest-le
+  entries-lowest =
+      entries-first t x n m (lowest m) (lowest-in 32 m some word .0) (lowest-in 32 m some word .1) lowest-le
 
 -- none
 pub entries-none : (t x n m : ℕ) → m ≡ 0 → entriesOfMask t x n m ≡ []

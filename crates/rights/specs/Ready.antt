@@ -25,7 +25,8 @@ abbrev pub Holding : Held → View → ℕ → List ℕ → Type 0
 Holding Table v own words = Tabled v words
 Holding Seeds v own words = Seeded v own words
 
--- the words are as `prepare` and `rights` leave them for a target, whose rights are the mask. Callers carry it along and never look inside
+-- the words are as `prepare` and `rights` leave them for a target, whose rights are the mask. Callers carry it along
+-- and never look inside
 pub record Ready (l : Listing) (target : ℕ) (held : Held) (mask : ℕ) (words : List ℕ) : Type 0 where
   pub rights : mask ≡ l .rights target
   pub holding : Holding held (l .view target) mask words

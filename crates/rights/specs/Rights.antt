@@ -1,5 +1,5 @@
--- The listed rights of one left side as a number, and the entries that such a number stands for. Where a target has n members, bit k of the
--- number stands for member k, and bit n for the row.
+-- The listed rights of one left side as a number, and the entries that such a number stands for. Where a target has n
+-- members, bit k of the number stands for member k, and bit n for the row.
 use Prim.Native.Nat.{ℕ, zero, suc}
 use mathlib.Core.List.{List, [], _∷_}
 use mathlib.Core.Bool.{_&&_}

@@ -1,9 +1,10 @@
-// Not for callers: the listed rights of one left side, for the listing call: by itself (`alone`), or by what is kept in the work words. Then
-// `prepare` is called where a call enters a target, and `rights` for each left side of it; what the two keep in the words between calls is
-// theirs alone. The engine finds what is minimal; `filter` says what of it is listed.
-// Relies on `keys` for the keys of a target, on `scan`, `table` and `blocks` for what the words hold, on `partition` for one left side alone,
-// on `layout` for how many rows and columns there are and on `passing` for the type that tells what the words hold. No cell is looked at but
-// where keys are laid. Called by `walk` and `steps`.
+// Not for callers: the listed rights of one left side, for the listing call: by itself (`alone`), or by what is kept
+// in the work words. Then `prepare` is called where a call enters a target, and `rights` for each left side of it;
+// what the two keep in the words between calls is theirs alone. The engine finds what is minimal; `filter` says what
+// of it is listed.
+// Relies on `keys` for the keys of a target, on `scan`, `table` and `blocks` for what the words hold, on `partition`
+// for one left side alone, on `layout` for how many rows and columns there are and on `passing` for the type that
+// tells what the words hold. No cell is looked at but where keys are laid. Called by `walk` and `steps`.
 ghost use mathlib.Core.Path.{_≡_};
 ghost use Prim.Native.Nat.{ℕ, suc, _-_, _^_, _≤_, _<_};
 ghost use lib.ListN.{length};
@@ -88,8 +89,8 @@ fn own_rights(cat: &[u8], target: u32) -> u32
     power(end) - power(inherited(cat, target))
 }
 
-// A target is entered: where one set only is asked for, the listed rights of that left side by itself, without work words; and else the words
-// are made ready, with all its rights as the mask. The keys are laid in one place for both.
+// A target is entered: where one set only is asked for, the listed rights of that left side by itself, without work
+// words; and else the words are made ready, with all its rights as the mask. The keys are laid in one place for both.
 fn enter(cat: &[u8], target: u32, left: u32, sets: u32, work: &mut [u32]) -> Entered
     requires { ⌜ Accepted (now cat) ⌝ }
     requires { ⌜ target < tables (now cat) ⌝ }

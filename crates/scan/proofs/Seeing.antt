@@ -1,4 +1,5 @@
--- The scan row by row: the sets of a line are noted one after the other, and those of all lines are the agree sets that occur.
+-- The scan row by row: the sets of a line are noted one after the other, and those of all lines are the agree sets
+-- that occur.
 use Prim.Native.Nat.{ℕ, zero, suc, _+_, _^_, _≤_, _<_}
 use mathlib.Core.Path.{_≡_, refl, sym, ap, subst, _∙_}
 use mathlib.Core.Logic.{_⊎_, inl, inr, ⊎-elim, _↔_}
@@ -81,14 +82,22 @@ seen-none keys n end seen blank = record {
   occurs = λ s. (λ e. absurd (omega (arith, blank .zeros s)), λ f. absurd (omega (arith, f .2)));
 }
 
-pub seen-more : {keys : List ℕ} {n end x : ℕ} {line before after : List ℕ} → x < end → LineOf (agreeSetOf (keyView keys n end) x) x end line
+pub seen-more : {keys : List ℕ} {n end x : ℕ} {line before after : List ℕ} → x < end
+    → LineOf (agreeSetOf (keyView keys n end) x) x end line
     → LineNoted line (x + 1) end before after → SeenBefore keys n end x before → SeenBefore keys n end (x + 1) after
 seen-more {keys} {n} {end} {x} {line} {before} {after} l sets noted h = record {
   long = noted .same-length ∙ h .long;
   occurs = λ s. (
     λ e. ⊎-elim
         (λ u. let f = h .occurs s .0 u in (f .0, f .1, omega (arith, f .2), f .3, f .4))
-        (λ g. (x, g .0, omega arith, (omega (arith, g .1), g .2), sym (sets .at (g .0) (omega (arith, g .1)) (g .2)) ∙ g .3))
+        (λ g. (
+          x,
+          g .0,
+          omega arith,
+          (omega (arith, g .1), g .2),
+          sym (sets .at (g .0) (omega (arith, g .1)) (g .2))
+              ∙ g .3,
+        ))
         (noted .noted s .0 e),
     λ f. noted .noted s .1 (at s (f .0) (f .1) (f .2) (f .3) (f .4) (ℕ-discrete (f .0) x)),
   );
@@ -104,7 +113,8 @@ seen-more {keys} {n} {end} {x} {line} {before} {after} l sets noted h = record {
         inr (q, omega arith, pair .1, sets .at q after (pair .1) ∙ ap (λ (p : ℕ). agreeSetOf v p q) (sym u) ∙ e)
     at s p q k pair e (no d) = inl (h .occurs s .1 (p, q, omega arith, pair, e))
 
-pub seen-all : {keys : List ℕ} {n end x : ℕ} {seen : List ℕ} → end ≤ x → SeenBefore keys n end x seen → SeenSets keys n end seen
+pub seen-all : {keys : List ℕ} {n end x : ℕ} {seen : List ℕ} → end ≤ x → SeenBefore keys n end x seen
+    → SeenSets keys n end seen
 seen-all l h = record {
   occurs = λ s. (
     λ e. let f = h .occurs s .0 e in (f .0, f .1, f .3, f .4),
@@ -113,8 +123,8 @@ seen-all l h = record {
 }
 
 -- an agree set has its byte
-pub sets-small : (keys : List ℕ) (n x end : ℕ) {line : List ℕ} → n ≤ columnBound → LineOf (agreeSetOf (keyView keys n end) x) x end line
-    → (q : ℕ) → x < q → q < end → word line q < 2 ^ columnBound
+pub sets-small : (keys : List ℕ) (n x end : ℕ) {line : List ℕ} → n ≤ columnBound
+    → LineOf (agreeSetOf (keyView keys n end) x) x end line → (q : ℕ) → x < q → q < end → word line q < 2 ^ columnBound
 sets-small keys n x end b sets q k l =
     subst (λ (w : ℕ). w < 2 ^ columnBound) (sym (sets .at q k l))
     (lt-of-lt-of-le (setBelow-lt n (λ k. keyView keys n end .agree k x q)) (pow-mono b))

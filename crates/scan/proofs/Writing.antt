@@ -1,4 +1,5 @@
--- The words written from the bytes that say which agree sets occur, one after the other, and what they are for a view that the keys are right for.
+-- The words written from the bytes that say which agree sets occur, one after the other, and what they are for a view
+-- that the keys are right for.
 use Prim.Native.Nat.{ℕ, _+_, _-_, _*_, _^_, _≤_, _<_}
 use mathlib.Core.Path.{_≡_, refl, sym, ap, subst, _∙_}
 use mathlib.Core.Logic.{_↔_}
@@ -42,7 +43,8 @@ set-inside n s e h is l = omega (arith, pow-mono {i = n} {j = columnBound} h)
 pub set-fits : (n m s e p : ℕ) → e ≡ 2 ^ n → p ≡ 2 ^ m → s < e → n ≤ m → s ≤ p - 1
 set-fits n m s e p is next l h = omega (arith, pow-mono {i = n} {j = m} h)
 
-pub broken-is : (seen : List ℕ) (n s p r : ℕ) → p ≡ 2 ^ (n + 1) → r ≡ pick (seenAt seen s) (p - 1 - s) 0 → r ≡ brokenWord seen n s
+pub broken-is : (seen : List ℕ) (n s p r : ℕ) → p ≡ 2 ^ (n + 1) → r ≡ pick (seenAt seen s) (p - 1 - s) 0
+    → r ≡ brokenWord seen n s
 broken-is seen n s p r next e =
     e ∙ ap (λ (p : ℕ). pick (seenAt seen s) (p - 1 - s) 0) (next ∙ ap (λ (k : ℕ). 2 ^ k) (add-one n))
 
@@ -59,7 +61,11 @@ pub gathering-more : {seen : List ℕ} {i j w p r : ℕ} → j < 32 → p ≡ 2 
     → Gathering seen i j w → Gathering seen i (j + 1) (bitOr w r)
 gathering-more {seen} {i} {j} {w} {p} {r} l is g h =
     let f : ℕ → Bool = λ j. seenAt seen (i * 32 + j) in
-    record { few = omega arith; bits = or-next f j w r (h .bits) (g ∙ ap (λ (p : ℕ). pick (f j) p 0) is) ∙ ap (λ (i : ℕ). setBelow i f) (sym (add-one j)) }
+    record {
+      few = omega arith;
+      bits = or-next f j w r (h .bits) (g ∙ ap (λ (p : ℕ). pick (f j) p 0) is)
+          ∙ ap (λ (i : ℕ). setBelow i f) (sym (add-one j));
+    }
 
 pub gathering-all : {seen : List ℕ} {i j w : ℕ} → 32 ≤ j → Gathering seen i j w → w ≡ planeWord (seenAt seen) i
 gathering-all {seen} {i} {j} l h =
@@ -70,8 +76,10 @@ pub seed-inside : (n i e : ℕ) → 5 ≤ n → n ≤ columnBound → e ≡ 2 ^ 
 seed-inside n i e h b is l = omega (arith, power-words n h, pow-mono {i = n} {j = columnBound} b)
 
 -- no pair is cached: the count behind the seeds is 0
-pub none-cached : (n m : ℕ) (ws : List ℕ) → m ≡ seedWords n → m + 4 ≤ length ws → word (set ws (m + 1) 0) (seedWords n + 1) ≡ 0
-none-cached n m ws is l = subst (λ (k : ℕ). word (set ws (m + 1) 0) (k + 1) ≡ 0) is (getD-set-same ws (m + 1) 0 0 (omega arith))
+pub none-cached : (n m : ℕ) (ws : List ℕ) → m ≡ seedWords n → m + 4 ≤ length ws
+    → word (set ws (m + 1) 0) (seedWords n + 1) ≡ 0
+none-cached n m ws is l =
+    subst (λ (k : ℕ). word (set ws (m + 1) 0) (k + 1) ≡ 0) is (getD-set-same ws (m + 1) 0 0 (omega arith))
 
 -- the bytes as tests
 module _ {keys seen : List ℕ} {n end : ℕ} (seen-is : SeenSets keys n end seen) where
@@ -81,15 +89,16 @@ module _ {keys seen : List ℕ} {n end : ℕ} (seen-is : SeenSets keys n end see
       (λ t. seen-is .occurs s .0 (is .0 t), λ f. is .1 (seen-is .occurs s .1 f))
 
   -- written and closed, the words are the table
-  pub built : {before mid after : List ℕ} → n ≤ columnBound → Filled 0 (2 ^ n) (brokenWord seen n) before mid → Closed n mid after
-      → (v : View) → Keyed v (2 ^ n - 1) n end keys → Table v after
+  pub built : {before mid after : List ℕ} → n ≤ columnBound → Filled 0 (2 ^ n) (brokenWord seen n) before mid
+      → Closed n mid after → (v : View) → Keyed v (2 ^ n - 1) n end keys → Table v after
   built {before} {mid} {after} few written closed v keyed =
       keyed-table keyed after
       (scanned-closed-table (keyView keys n end) mid after (key-equivalence keys n end) few
       (noted-scanned (keyView keys n end) (seenAt seen) mid (λ s l. tests s) (filled-first written)) closed)
 
   -- gathered, they are the seeds, whatever is stored behind them
-  pub sown : {before mid : List ℕ} (m : ℕ) → 5 ≤ n → m ≡ seedWords n → Filled 0 (seedWords n) (planeWord (seenAt seen)) before mid
+  pub sown : {before mid : List ℕ} (m : ℕ) → 5 ≤ n → m ≡ seedWords n
+      → Filled 0 (seedWords n) (planeWord (seenAt seen)) before mid
       → (v : View) → Keyed v (2 ^ n - 1) n end keys → Equivalence v → Sown v n (set mid (m + 1) 0)
   sown {before} {mid} m h is written v keyed eq =
       sown-kept v n mid (set mid (m + 1) 0) h (λ i k. getD-set-other mid (m + 1) i 0 0 (λ u. omega arith))

@@ -29,7 +29,8 @@ fn write_broken(seen: &[u8; SETS], n: u32, words: &mut [u32])
     }
 }
 
-// The table of broken rights of the view that the keys are laid for: bit a of word x is 1 exactly if the left side x does not give right a.
+// The table of broken rights of the view that the keys are laid for: bit a of word x is 1 exactly if the left side x
+// does not give right a.
 pub fn build(keys: &[u16; SIZE], n: u32, end: usize, words: &mut [u32])
     requires { ⌜ (n ≤ columnBound) × (end ≤ rowBound) × (2 ^ n ≤ length (now words)) ⌝ }
     ensures { λ _. ⌜ ((v : View) → Keyed v (2 ^ n - 1) n end (now (keys .entry)) → Table v (now (words .exit))) ⌝ }

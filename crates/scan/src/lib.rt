@@ -1,5 +1,5 @@
-// Not for callers: the table of broken rights, or the seeds, of any view whose rows are laid as keys. A byte for each agree set notes which of them occur
-// in the lines of the rows, and the words are written from these bytes.
+// Not for callers: the table of broken rights, or the seeds, of any view whose rows are laid as keys. A byte for each
+// agree set notes which of them occur in the lines of the rows, and the words are written from these bytes.
 // Relies on `classes` and `lines` for the lines, and on `table` and `planes` for the words. Called by `rights`.
 mod broken;
 mod pairs;

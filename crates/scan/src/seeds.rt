@@ -35,7 +35,8 @@ fn gathered(seen: &[u8; SETS], i: u32) -> u32
 // Writes the bits of all agree sets of n members.
 fn write_seeds(seen: &[u8; SETS], n: u32, words: &mut [u32])
     requires { ⌜ (5 ≤ n) × (n ≤ columnBound) × (seedWords n ≤ length (now words)) ⌝ }
-    ensures { λ _. ⌜ Filled 0 (seedWords n) (planeWord (seenAt (now (seen .entry)))) (now (words .entry)) (now (words .exit)) ⌝ }
+    ensures { λ _. ⌜ Filled 0 (seedWords n) (planeWord (seenAt (now (seen .entry)))) (now (words .entry))
+        (now (words .exit)) ⌝ }
 {
     let end = power(n - 5);
     let mut i: u32 = 0;
@@ -45,10 +46,12 @@ fn write_seeds(seen: &[u8; SETS], n: u32, words: &mut [u32])
     }
 }
 
-// The seeds of the view that the keys are laid for: bit s is 1 exactly if s is the agree set of a pair of rows. No rights are cached behind them.
+// The seeds of the view that the keys are laid for: bit s is 1 exactly if s is the agree set of a pair of rows. No
+// rights are cached behind them.
 pub fn sow(keys: &[u16; SIZE], n: u32, end: usize, words: &mut [u32])
     requires { ⌜ (5 ≤ n) × (n ≤ columnBound) × (end ≤ rowBound) × (seedWords n + 4 ≤ length (now words)) ⌝ }
-    ensures { λ _. ⌜ ((v : View) → Keyed v (2 ^ n - 1) n end (now (keys .entry)) → Equivalence v → Sown v n (now (words .exit))) ⌝ }
+    ensures { λ _. ⌜ ((v : View) → Keyed v (2 ^ n - 1) n end (now (keys .entry)) → Equivalence v
+        → Sown v n (now (words .exit))) ⌝ }
     ensures { λ _. ⌜ word (now (words .exit)) (seedWords n + 1) ≡ 0 ⌝ }
 {
     let mut seen = [0; SETS];

@@ -21,12 +21,19 @@ module _ (keys leaders : List ℕ) (a q : ℕ) where
   pub strays-row : a ≡ row → not (eqb (getD leaders q 0) q) ≡ strays keys leaders a q
   unfolding strays
   strays-row e =
-      sym (ap (λ (t : Bool). not (pick t (eqb (getD leaders q 0) q) (eqb (keyAt keys a (getD leaders q 0)) (keyAt keys a q)))) (eq-eqb a row e))
+      sym
+      (ap
+      (λ (t : Bool). not (pick t (eqb (getD leaders q 0) q)
+      (eqb (keyAt keys a (getD leaders q 0)) (keyAt keys a q)))) (eq-eqb a row e))
 
-  pub strays-member : (a ≡ row → ⊥) → not (eqb (keyAt keys a (getD leaders q 0)) (keyAt keys a q)) ≡ strays keys leaders a q
+  pub strays-member : (a ≡ row → ⊥) → not (eqb (keyAt keys a (getD leaders q 0)) (keyAt keys a q))
+      ≡ strays keys leaders a q
   unfolding strays
   strays-member n =
-      sym (ap (λ (t : Bool). not (pick t (eqb (getD leaders q 0) q) (eqb (keyAt keys a (getD leaders q 0)) (keyAt keys a q)))) (ne-eqb a row n))
+      sym
+      (ap
+      (λ (t : Bool). not (pick t (eqb (getD leaders q 0) q)
+      (eqb (keyAt keys a (getD leaders q 0)) (keyAt keys a q)))) (ne-eqb a row n))
 
   pub follows-not : (p : ℕ) → (getD leaders q 0 ≡ p → ⊥) → false ≡ follows keys leaders a p q
   unfolding follows
@@ -36,7 +43,8 @@ module _ (keys leaders : List ℕ) (a q : ℕ) where
   unfolding follows
   follows-strays p e = sym (ap (λ (t : Bool). t && strays keys leaders a q) (eq-eqb (getD leaders q 0) p e))
 
-  pub follows-is : (p : ℕ) {r : Bool} → r ≡ follows keys leaders a p q → r ≡ true → (getD leaders q 0 ≡ p) × (strays keys leaders a q ≡ true)
+  pub follows-is : (p : ℕ) {r : Bool} → r ≡ follows keys leaders a p q → r ≡ true
+      → (getD leaders q 0 ≡ p) × (strays keys leaders a q ≡ true)
   unfolding follows
   follows-is p f e = at (ℕ-discrete (getD leaders q 0) p)
     where
@@ -46,9 +54,10 @@ module _ (keys leaders : List ℕ) (a q : ℕ) where
 
 -- the marks
 module _ (keys leaders : List ℕ) (a : ℕ) where
-  pub marked-kept : (q : ℕ) (marks : List ℕ) {r : Bool} → length marks ≡ rowBound → r ≡ strays keys leaders a q → not r ≡ true
-      → MarkedMore keys leaders a q marks marks
-  marked-kept q marks l f e = record { long = l; kept = λ i h. h; more = λ s. let k : _≡_ {A = ℕ} 0 1 = cc in absurd (omega arith) }
+  pub marked-kept : (q : ℕ) (marks : List ℕ) {r : Bool} → length marks ≡ rowBound → r ≡ strays keys leaders a q
+      → not r ≡ true → MarkedMore keys leaders a q marks marks
+  marked-kept q marks l f e =
+      record { long = l; kept = λ i h. h; more = λ s. let k : _≡_ {A = ℕ} 0 1 = cc in absurd (omega arith) }
 
   pub marked-one : (q : ℕ) (marks : List ℕ) → length marks ≡ rowBound → getD leaders q 0 < rowBound
       → MarkedMore keys leaders a q marks (set marks (getD leaders q 0) 1)
@@ -61,16 +70,18 @@ module _ (keys leaders : List ℕ) (a : ℕ) where
     where
       at : (i : ℕ) → getD marks i 0 ≡ 1 → Dec (i ≡ getD leaders q 0) → getD (set marks (getD leaders q 0) 1) i 0 ≡ 1
       at i m (yes e) =
-          subst (λ (j : ℕ). getD (set marks (getD leaders q 0) 1) j 0 ≡ 1) (sym e) (getD-set-same marks (getD leaders q 0) 1 0 (omega arith))
+          subst (λ (j : ℕ). getD (set marks (getD leaders q 0) 1) j 0 ≡ 1) (sym e)
+          (getD-set-same marks (getD leaders q 0) 1 0 (omega arith))
       at i m (no n) = getD-set-other marks (getD leaders q 0) i 1 0 n ∙ m
 
-  pub marked-more : (q : ℕ) (before after : List ℕ) → MarkedBelow keys leaders a q before → MarkedMore keys leaders a q before after
-      → MarkedBelow keys leaders a (q + 1) after
+  pub marked-more : (q : ℕ) (before after : List ℕ) → MarkedBelow keys leaders a q before
+      → MarkedMore keys leaders a q before after → MarkedBelow keys leaders a (q + 1) after
   marked-more q before after h m r l s = at (ℕ-discrete r q)
     where
       at : Dec (r ≡ q) → getD after (getD leaders r 0) 0 ≡ 1
       at (yes e) =
-          subst (λ (j : ℕ). getD after (getD leaders j 0) 0 ≡ 1) (sym e) (m .more (subst (λ (j : ℕ). strays keys leaders a j ≡ true) e s))
+          subst (λ (j : ℕ). getD after (getD leaders j 0) 0 ≡ 1) (sym e)
+          (m .more (subst (λ (j : ℕ). strays keys leaders a j ≡ true) e s))
       at (no n) = m .kept (getD leaders r 0) (h r (omega arith) s)
 
 -- the row after p
@@ -100,8 +111,8 @@ module _ (keys leaders : List ℕ) (a end : ℕ) (inside : Inside end leaders) w
       at true f = let k : _≡_ {A = ℕ} 0 1 = cc (eq-eqb r r refl) in omega arith
       at false f = let k : _≡_ {A = ℕ} 0 1 = cc (eq-eqb (keyAt keys a r) (keyAt keys a r) refl) in omega arith
 
-  pub before-begun : (marks : List ℕ) (p q : ℕ) → MarkedBelow keys leaders a end marks → q ≡ rowAfter marks p end → p < end
-      → NoneBefore keys leaders a end p 0 → NoneBefore keys leaders a end p q
+  pub before-begun : (marks : List ℕ) (p q : ℕ) → MarkedBelow keys leaders a end marks → q ≡ rowAfter marks p end
+      → p < end → NoneBefore keys leaders a end p 0 → NoneBefore keys leaders a end p q
   before-begun marks p q marked e l h r k s = at (h r k s)
     where
       first : p ≡ getD leaders r 0 → q ≤ r
@@ -110,12 +121,13 @@ module _ (keys leaders : List ℕ) (a end : ℕ) (inside : Inside end leaders) w
           let low = inside .lower r k in
           omega (arith, after-marked marks p end m, apart r s)
 
-      at : (p < getD leaders r 0) ⊎ ((p ≡ getD leaders r 0) × (0 ≤ r)) → (p < getD leaders r 0) ⊎ ((p ≡ getD leaders r 0) × (q ≤ r))
+      at : (p < getD leaders r 0) ⊎ ((p ≡ getD leaders r 0) × (0 ≤ r))
+          → (p < getD leaders r 0) ⊎ ((p ≡ getD leaders r 0) × (q ≤ r))
       at (inl g) = inl g
       at (inr (f, z)) = inr (f, first f)
 
-  pub before-more : (p q : ℕ) {t : Bool} → t ≡ follows keys leaders a p q → t ≡ false → NoneBefore keys leaders a end p q
-      → NoneBefore keys leaders a end p (q + 1)
+  pub before-more : (p q : ℕ) {t : Bool} → t ≡ follows keys leaders a p q → t ≡ false
+      → NoneBefore keys leaders a end p q → NoneBefore keys leaders a end p (q + 1)
   before-more p q f e h r k s = at (h r k s)
     where
       other : p ≡ getD leaders r 0 → q ≡ r → ⊥
@@ -125,14 +137,16 @@ module _ (keys leaders : List ℕ) (a end : ℕ) (inside : Inside end leaders) w
           let k : _≡_ {A = ℕ} 0 1 = cc in
           omega arith
 
-      at : (p < getD leaders r 0) ⊎ ((p ≡ getD leaders r 0) × (q ≤ r)) → (p < getD leaders r 0) ⊎ ((p ≡ getD leaders r 0) × (q + 1 ≤ r))
+      at : (p < getD leaders r 0) ⊎ ((p ≡ getD leaders r 0) × (q ≤ r))
+          → (p < getD leaders r 0) ⊎ ((p ≡ getD leaders r 0) × (q + 1 ≤ r))
       at (inl g) = inl g
       at (inr (g, l)) = inr (g, omega (arith, other g))
 
   pub before-row : (p q : ℕ) → end ≤ q → NoneBefore keys leaders a end p q → NoneBefore keys leaders a end (p + 1) 0
   before-row p q l h r k s = at (h r k s)
     where
-      at : (p < getD leaders r 0) ⊎ ((p ≡ getD leaders r 0) × (q ≤ r)) → (p + 1 < getD leaders r 0) ⊎ ((p + 1 ≡ getD leaders r 0) × (0 ≤ r))
+      at : (p < getD leaders r 0) ⊎ ((p ≡ getD leaders r 0) × (q ≤ r)) → (p + 1 < getD leaders r 0)
+          ⊎ ((p + 1 ≡ getD leaders r 0) × (0 ≤ r))
       at (inl g) = up (ℕ-discrete (p + 1) (getD leaders r 0))
         where
           up : Dec (p + 1 ≡ getD leaders r 0) → (p + 1 < getD leaders r 0) ⊎ ((p + 1 ≡ getD leaders r 0) × (0 ≤ r))
@@ -140,7 +154,8 @@ module _ (keys leaders : List ℕ) (a end : ℕ) (inside : Inside end leaders) w
           up (no n) = inl (omega arith)
       at (inr (g, m)) = absurd (omega arith)
 
-  pub before-all : (p : ℕ) → end ≤ p → NoneBefore keys leaders a end p 0 → (r : ℕ) → r < end → strays keys leaders a r ≡ true → ⊥
+  pub before-all : (p : ℕ) → end ≤ p → NoneBefore keys leaders a end p 0 → (r : ℕ) → r < end
+      → strays keys leaders a r ≡ true → ⊥
   before-all p l h r k s = at (h r k s)
     where
       low : getD leaders r 0 ≤ r

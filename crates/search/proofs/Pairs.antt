@@ -1,5 +1,5 @@
--- The first row that strays, with its leader, is the first pair of rows that breaks the dependency; and what is first for keys is first for every view
--- that they are right for.
+-- The first row that strays, with its leader, is the first pair of rows that breaks the dependency; and what is first
+-- for keys is first for every view that they are right for.
 use Prim.Native.Nat.{ℕ, _≤_, _<_}
 use mathlib.Core.Path.{_≡_, sym, ap, subst, _∙_}
 use mathlib.Core.Logic.{_⊎_, inl, inr}
@@ -21,7 +21,8 @@ use Rattle.search.specs.Strays.{sameRight, strays, Inside, NoneBefore, F
 use Rattle.search.specs.declared.Found.{Found}
 use Rattle.search.specs.declared.Found.the-variants.{Pair, Nothing}
 
-module _ (keys leaders : List ℕ) (n end x a : ℕ) (leads : (q : ℕ) → q < end → getD leaders q 0 ≡ leaderOf (keyView keys n end) x q) where
+module _ (keys leaders : List ℕ) (n end x a : ℕ)
+    (leads : (q : ℕ) → q < end → getD leaders q 0 ≡ leaderOf (keyView keys n end) x q) where
   strays-is : (q : ℕ) → q < end → strays keys leaders a q ≡ true → Strays (keyView keys n end) x a q
   unfolding strays
   strays-is q l e =
@@ -48,7 +49,8 @@ module _ (keys leaders : List ℕ) (n end x a : ℕ) (leads : (q : ℕ) → q < 
       lower r low g (inl h) = omega arith
       lower r low g (inr (h, k)) = omega arith
 
-      earlier : (r : ℕ) → r < q → leaderOf (keyView keys n end) x r ≡ p → getD leaders r 0 ≡ leaderOf (keyView keys n end) x r
+      earlier : (r : ℕ) → r < q → leaderOf (keyView keys n end) x r ≡ p
+          → getD leaders r 0 ≡ leaderOf (keyView keys n end) x r
           → (p < getD leaders r 0) ⊎ ((p ≡ getD leaders r 0) × (q ≤ r)) → ⊥
       earlier r low same g (inl h) = omega arith
       earlier r low same g (inr (h, k)) = omega arith
@@ -56,7 +58,8 @@ module _ (keys leaders : List ℕ) (n end x a : ℕ) (leads : (q : ℕ) → q < 
       no-stray-holds (keyView keys n end) (key-equivalence keys n end) x a (λ q s. none q (s .exists) (is-strays q s))
 
 -- the leaders are no higher than their rows
-pub led-inside : {keys leaders : List ℕ} {n end x r : ℕ} → end ≤ rowBound → Led keys n end x leaders r → Inside end leaders
+pub led-inside : {keys leaders : List ℕ} {n end x r : ℕ} → end ≤ rowBound → Led keys n end x leaders r
+    → Inside end leaders
 led-inside {keys} {leaders} {n} {end} {x} short led =
     record { short = short; lower = λ q l. omega (arith, led .leads q l, leader-le (keyView keys n end) x q) }
 
@@ -71,7 +74,8 @@ module _ {v : View} {set n end : ℕ} {keys : List ℕ} (keyed : Keyed v set n e
         lower = l;
         exists = omega arith;
         left = agreeOn-is v x p q .0
-            (subst T (sym (keyed-agreeOn keyed x p q within (omega arith) h)) (agreeOn-is (keyView keys n end) x p q .1 (b .left)));
+            (subst T (sym (keyed-agreeOn keyed x p q within (omega arith) h))
+            (agreeOn-is (keyView keys n end) x p q .1 (b .left)));
         right = λ t. b .right (subst T (keyed-right keyed a p q right (omega arith) h) t);
       }
 

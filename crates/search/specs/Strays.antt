@@ -1,4 +1,5 @@
--- The search for two rows that break a dependency, by the rows that stray from their leaders, in the order of the leader and then of the row.
+-- The search for two rows that break a dependency, by the rows that stray from their leaders, in the order of the
+-- leader and then of the row.
 use Prim.Native.Nat.{ℕ, _+_, _≤_, _<_}
 use mathlib.Core.Path.{_≡_}
 use mathlib.Core.Logic.{_⊎_}
@@ -38,7 +39,8 @@ pub record MarkedMore (keys leaders : List ℕ) (a q : ℕ) (before after : List
 
 -- each leader is marked that a row below the end strays from
 abbrev pub MarkedBelow : List ℕ → List ℕ → ℕ → ℕ → List ℕ → Type 0
-MarkedBelow keys leaders a end marks = (q : ℕ) → q < end → strays keys leaders a q ≡ true → getD marks (getD leaders q 0) 0 ≡ 1
+MarkedBelow keys leaders a end marks =
+    (q : ℕ) → q < end → strays keys leaders a q ≡ true → getD marks (getD leaders q 0) 0 ≡ 1
 
 -- the row after p where p is marked, and else the end
 unfoldable pub rowAfter : List ℕ → ℕ → ℕ → ℕ

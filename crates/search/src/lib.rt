@@ -1,5 +1,6 @@
-// Not for callers: the first two rows that break a dependency, from keys alone. A row strays if it does not agree on the right side with its leader on the
-// left; the first breaking pair is the lowest leader that a row strays from, and the lowest such row.
+// Not for callers: the first two rows that break a dependency, from keys alone. A row strays if it does not agree on
+// the right side with its leader on the left; the first breaking pair is the lowest leader that a row strays from,
+// and the lowest such row.
 // Relies on `partition` for the leaders of a left side and on the laws of `leaders`. Called by `dependency`.
 ghost use Prim.Native.Nat.{ℕ, _≤_, _<_};
 ghost use mathlib.Core.Path.{_≡_};
@@ -8,7 +9,8 @@ ghost use lib.ListN.{getD, length};
 ghost use Rattle.columns.specs.Bound.{columnBound};
 ghost use Rattle.model.specs.Bounds.{row, rowBound};
 ghost use Rattle.leaders.specs.Keys.{keyView};
-ghost use Rattle.search.specs.Strays.{sameRight, Inside, strays as straysOf, MarkedMore, MarkedBelow, FirstStray, FirstBreaking, follows as followsOf, rowAfter};
+ghost use Rattle.search.specs.Strays.{sameRight, Inside, strays as straysOf, MarkedMore, MarkedBelow, FirstStray};
+ghost use Rattle.search.specs.Strays.{FirstBreaking, follows as followsOf, rowAfter};
 use leaders::ROWS;
 use leaders::SIZE;
 use model::ROW;
@@ -43,7 +45,8 @@ fn mark_leader(
 )
     requires { ⌜ (q < rowBound) × (getD (now leaders) q 0 < rowBound) × ((right ≡ row → ⊥) → right < columnBound) ⌝ }
     requires { ⌜ length (now marks) ≡ rowBound ⌝ }
-    ensures { λ _. ⌜ MarkedMore (now (keys .entry)) (now (leaders .entry)) right q (now (marks .entry)) (now (marks .exit)) ⌝ }
+    ensures { λ _. ⌜ MarkedMore (now (keys .entry)) (now (leaders .entry)) right q (now (marks .entry))
+        (now (marks .exit)) ⌝ }
 {
     if !strays(keys, leaders, right, q) {
         return;
@@ -60,7 +63,8 @@ fn mark_leaders(
     end: usize,
     marks: &mut [u8; ROWS],
 )
-    requires { ⌜ Inside end (now leaders) × ((right ≡ row → ⊥) → right < columnBound) × (length (now marks) ≡ rowBound) ⌝ }
+    requires { ⌜ Inside end (now leaders) × ((right ≡ row → ⊥) → right < columnBound)
+        × (length (now marks) ≡ rowBound) ⌝ }
     ensures { λ _.
         ⌜ (length (now (marks .exit)) ≡ rowBound)
         × MarkedBelow (now (keys .entry)) (now (leaders .entry)) right end (now (marks .exit)) ⌝ }

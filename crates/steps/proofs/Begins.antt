@@ -1,4 +1,5 @@
--- What `begin` shows, over plain values: the refusals, an answer at once, and an answer or an entry by way of the first set.
+-- What `begin` shows, over plain values: the refusals, an answer at once, and an answer or an entry by way of the
+-- first set.
 use Prim.Native.Nat.{ℕ, suc, _+_, _≤_, _<_}
 use mathlib.Core.Path.{_≡_, refl, sym, ap, ap₂, subst, _∙_}
 use mathlib.Core.List.{List, [], _∷_}
@@ -18,7 +19,8 @@ use Rattle.model.specs.declared.Refusal.{Refusal}
 use Rattle.model.specs.declared.Refusal.the-variants.{FileTooShort, TooFewWords, PastTheEnd, RunTooShort}
 use Rattle.model.proofs.Grounds.{orElse-first}
 use Rattle.model.proofs.Complete.{after-none}
-use Rattle.model.proofs.Calls.{passed-spent, written-spent, passed-end-at, written-end-at, call-few, call-past, call-short, call-none}
+use Rattle.model.proofs.Calls.{passed-spent, written-spent, passed-end-at, written-end-at, call-few, call-past}
+use Rattle.model.proofs.Calls.{call-short, call-none}
 use Rattle.model.proofs.Stops.{written-fits}
 use Rattle.grounds.proofs.Sound.{check-code-le}
 use Rattle.walk.specs.Meaning.{ahead, final}
@@ -65,13 +67,15 @@ module _ (before : ℕ) (l : Listing) (place budget room : ℕ) (words : List �
     after-check : ground ≡ callCode (cells l) place budget room (length words)
     after-check = after-none before ok (cells l) place budget room (length words)
 
-    pub begin-few : length words < workBound → Began before l place budget room words (Done (answer.Refused TooFewWords)) words
+    pub begin-few : length words < workBound
+        → Began before l place budget room words (Done (answer.Refused TooFewWords)) words
     begin-few h =
         refused-at TooFewWords (after-check ∙ call-few (cells l) place budget room (length words) h)
         (λ z. omega arith) (λ z. omega arith)
 
     module _ (enough : workBound ≤ length words) where
-      pub begin-past : length (cells l) < place → Began before l place budget room words (Done (answer.Refused PastTheEnd)) words
+      pub begin-past : length (cells l) < place
+          → Began before l place budget room words (Done (answer.Refused PastTheEnd)) words
       begin-past h =
           refused-at PastTheEnd
           (after-check ∙ call-past (cells l) place budget room (length words) enough (omega arith))
@@ -102,7 +106,8 @@ module _ (before : ℕ) (l : Listing) (place budget room : ℕ) (words : List �
             (ap (λ (g : ℕ). passed g room (drop place (cells l))) q ∙ passed-spent room _)
             (ap (λ (g : ℕ). written g room (drop place (cells l))) q ∙ written-spent room _)
 
-        pub begin-end : place ≡ length (cells l) → Began before l place budget room words (Done (answer.Listed place 0 0)) zeroed
+        pub begin-end : place ≡ length (cells l)
+            → Began before l place budget room words (Done (answer.Listed place 0 0)) zeroed
         begin-end q =
             idle
             (after-check ∙ call-none (cells l) place budget room (length words) enough (omega arith)
@@ -146,10 +151,12 @@ module _ (before : ℕ) (l : Listing) (place budget room : ℕ) (words : List �
             ap₂ (λ (g r : ℕ). finalAt (w .place) g r (w .passed) (w .count)) (f .useful) (f .free)
             ∙ ap₂ (λ (p q : ℕ). finalAt p budget room q (w .count)) (f .start) (f .none)
             ∙ ap (finalAt place budget room 0) (f .empty)
-            ∙ ap₂ (λ (k n : ℕ). answered ((place + passed budget room (drop place (cells l))) ∷ k ∷ n ∷ [])) (omega arith) (omega arith)
+            ∙ ap₂ (λ (k n : ℕ). answered ((place + passed budget room (drop place (cells l))) ∷ k ∷ n ∷ []))
+            (omega arith) (omega arith)
 
         pub begin-short : (after : List ℕ) → Passes l w Stop after → length after ≡ length words → (zeroed : List ℕ)
-            → zeroed ≡ replicate (length after) 0 → Began before l place budget room words (Done (answer.Refused RunTooShort)) zeroed
+            → zeroed ≡ replicate (length after) 0
+            → Began before l place budget room words (Done (answer.Refused RunTooShort)) zeroed
         unfolding due replyOf workAfter
         begin-short after h same zeroed z =
             let e : ground ≡ number RunTooShort =
@@ -159,7 +166,8 @@ module _ (before : ℕ) (l : Listing) (place budget room : ℕ) (words : List �
               put = sym (rw e (ifEq-no _ (λ q. omega arith)));
               fits = omega arith;
               reply = sym (rw e (ifEq-no _ (λ q. omega arith)));
-              kept = z ∙ ap (λ (k : ℕ). replicate k 0) same ∙ sym (rw e (ifEq-no _ (λ q. omega arith) ∙ ifEq-yes _ refl));
+              kept =
+                  z ∙ ap (λ (k : ℕ). replicate k 0) same ∙ sym (rw e (ifEq-no _ (λ q. omega arith) ∙ ifEq-yes _ refl));
             }
 
         pub begin-walks : (v : Walk) (after : List ℕ) → Passes l w (At v) after → length after ≡ length words

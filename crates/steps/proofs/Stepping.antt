@@ -41,7 +41,8 @@ module _ (l : Listing) (w : Walk) (words : List ℕ) where
   stepping-begun g = record { good = g; same = record { put = refl; reply = refl }; length = refl }
 
   module _ (v : Walk) (now : List ℕ) (s : Stepping l w v words now) where
-    pub stepping-on : (u : Walk) (after : List ℕ) → Goes l v (At u) after → length after ≡ length now → Stepping l w u words after
+    pub stepping-on : (u : Walk) (after : List ℕ) → Goes l v (At u) after → length after ≡ length now
+        → Stepping l w u words after
     stepping-on u after g k =
         record {
           good = g .0;
@@ -78,8 +79,8 @@ module _ (l : Listing) (w : Walk) (words : List ℕ) where
     unfolding putFrom ahead final
     step-put r e some = subst (λ (q : Stepped). Went l w words q now) (sym e) (record {
       put =
-          ap (λ (es : List Entry). es ++ written (v .budget) (v .room) (drop (v .place) (cells l))) (sym (put-entries v (puts some)))
-          ∙ s .same .put;
+          ap (λ (es : List Entry). es ++ written (v .budget) (v .room) (drop (v .place) (cells l)))
+          (sym (put-entries v (puts some))) ∙ s .same .put;
       reply = s .same .reply;
       kept =
           record {

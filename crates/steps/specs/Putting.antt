@@ -8,7 +8,8 @@ use Rattle.passing.specs.declared.Walk.{Walk}
 use Rattle.steps.specs.declared.Stepped.{Stepped}
 use Rattle.steps.specs.declared.Stepped.the-variants.{Put}
 
--- what is put fits a record, which has 8 bits for the target and the right side and 16 for the left, and some right is pending
+-- what is put fits a record, which has 8 bits for the target and the right side and 16 for the left, and some right
+-- is pending
 pub record Puttable (w : Walk) : Type 0 where
   pub target : w .target < 2 ^ 8
   pub left : w .left < 2 ^ 16

@@ -1,5 +1,5 @@
--- The contracts of `begin` and `step`, for any listing (specs/Meaning.antt of `walk`): what is still to be put, what will be replied, and what
--- the work words are meanwhile and at the end.
+-- The contracts of `begin` and `step`, for any listing (specs/Meaning.antt of `walk`): what is still to be put, what
+-- will be replied, and what the work words are meanwhile and at the end.
 use Prim.Native.Nat.{ℕ, _≤_, _+_}
 use mathlib.Core.Path.{_≡_}
 use mathlib.Core.List.{List, [], _∷_}

@@ -1,8 +1,8 @@
-// Not for callers: the steps of a listing call, from entry to entry: `begin` and `step` decide everything, keep the work words and look at no
-// record.
-// Relies on `walk` for going from set to set, on `passing` for the walk's type, on `rights` for the numbers of rights, on `grounds` for the check's
-// grounds, on `layout` for the number of sets and on `refusals` for the refusal that has a number and for the work
-// words. Called by `listing`.
+// Not for callers: the steps of a listing call, from entry to entry: `begin` and `step` decide everything, keep the
+// work words and look at no record.
+// Relies on `walk` for going from set to set, on `passing` for the walk's type, on `rights` for the numbers of
+// rights, on `grounds` for the check's grounds, on `layout` for the number of sets and on `refusals` for the refusal
+// that has a number and for the work words. Called by `listing`.
 mod put;
 
 ghost use Rattle.model.specs.Check.{checkCode, Accepted};
@@ -53,7 +53,8 @@ pub fn step(cat: &[u8], w: Walk, work: &mut [u32]) -> Stepped
 
 // The first step of a call: a refusal, the first entry, or the answer.
 pub fn begin(cat: &[u8], place: u32, budget: u32, room: usize, work: &mut [u32]) -> Stepped
-    ensures { λ r. ⌜ Began (checkCode (now (cat .entry))) (ordinary (now (cat .entry))) place budget room (now (work .entry)) r
+    ensures { λ r. ⌜ Began (checkCode (now (cat .entry))) (ordinary (now (cat .entry))) place budget room
+        (now (work .entry)) r
         (now (work .exit)) ⌝ }
 {
     let code = check_code(cat);

@@ -111,7 +111,8 @@ has-lowest =
     bin-ind (λ (x : ℕ). 0 < x → (k : ℕ) × LowestBit x k) (λ h. absurd (omega arith))
     (λ x half h. at x h half (x % 2) refl (omega arith))
   where
-    at : (x : ℕ) → 0 < x → (0 < x / 2 → (k : ℕ) × LowestBit (x / 2) k) → (d : ℕ) → x % 2 ≡ d → d < 2 → (k : ℕ) × LowestBit x k
+    at : (x : ℕ) → 0 < x → (0 < x / 2 → (k : ℕ) × LowestBit (x / 2) k) → (d : ℕ) → x % 2 ≡ d → d < 2
+        → (k : ℕ) × LowestBit x k
     at x h half zero e l = let w = half (omega arith) in (suc (w .0), lowest-even x (w .0) e h (w .1))
     at x h half (suc zero) e l = (0, lowest-odd x e)
     at x h half (suc (suc d)) e l = absurd (omega arith)

@@ -50,7 +50,8 @@ block-more start column i x before after e h b =
       words =
           filled-moved (omega arith)
           (filled-more r e (omega arith) (omega arith)
-          (ap₂ bitOr (r .past x (omega arith)) (r .past (x + column) (omega arith)) ∙ ap (withFurther column (word before)) e));
+          (ap₂ bitOr (r .past x (omega arith)) (r .past (x + column) (omega arith))
+          ∙ ap (withFurther column (word before)) e));
     }
 
 pub block-done : (start column i : ℕ) (before after : List ℕ) → column ≤ i → InBlock start column i before after

@@ -1,4 +1,5 @@
--- The scan: words that hold at each agree set that occurs what it breaks, and 0 at any other, are what `Scanned` speaks of.
+-- The scan: words that hold at each agree set that occurs what it breaks, and 0 at any other, are what `Scanned`
+-- speaks of.
 use Prim.Native.Nat.{ℕ, suc, _-_, _^_, _≤_, _<_}
 use mathlib.Core.Path.{_≡_, sym, ap, _∙_}
 use mathlib.Core.Logic.{_↔_}

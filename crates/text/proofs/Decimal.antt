@@ -29,8 +29,8 @@ spelt-in (suc fuel) (suc k) n f w =
     let tenth = pow-suc 10 k in
     let whole = pow-suc 10 (suc k) in
     ap₂ (λ (l : List ℕ) (d : ℕ). l ++ (d ∷ []))
-    (spelt-in fuel k (n / 10) (omega arith) (omega arith, omega arith, (λ h. omega arith))) (glyph-is (n % 10) (omega arith))
-    ∙ sym (ifLt-no ((48 + n) ∷ []) (omega arith))
+    (spelt-in fuel k (n / 10) (omega arith) (omega arith, omega arith, (λ h. omega arith)))
+    (glyph-is (n % 10) (omega arith)) ∙ sym (ifLt-no ((48 + n) ∷ []) (omega arith))
 
 -- so where k is the fewest digits that hold n
 pub spelt : (k n : ℕ) → Fewest 10 1 n k → digits 10 k n ≡ decimal n

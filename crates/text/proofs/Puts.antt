@@ -44,8 +44,8 @@ pub puts-past : (w : List ℕ) (at : ℕ) (b : List ℕ) → length b < at + len
 puts-past w at b l = record { same = refl; bytes = λ h. absurd (omega arith); behind = λ h. absurd (omega arith) }
 
 -- one byte more of a word, and all of its bytes
-pub puts-more : (word : List ℕ) (i : ℕ) {at : ℕ} {b c d : List ℕ} {m n : ℕ} → i < length word → Puts (take i word) at b c m
-    → Puts (getD word i 0 ∷ []) m c d n → Puts (take (i + 1) word) at b d n
+pub puts-more : (word : List ℕ) (i : ℕ) {at : ℕ} {b c d : List ℕ} {m n : ℕ} → i < length word
+    → Puts (take i word) at b c m → Puts (getD word i 0 ∷ []) m c d n → Puts (take (i + 1) word) at b d n
 puts-more word i {at} {b} {c} {d} {m} {n} h p q =
     subst (λ (w : List ℕ). Puts w at b d n) (sym (ap (λ (k : ℕ). take k word) (add-one i) ∙ take-suc word i 0 h))
     (puts-both (take i word) (getD word i 0 ∷ []) p q)
@@ -55,7 +55,8 @@ pub puts-whole : (word : List ℕ) (i : ℕ) {at : ℕ} {b c : List ℕ} {m : �
 puts-whole word i {at} {b} {c} {m} h p = subst (λ (w : List ℕ). Puts w at b c m) (take-all i word h) p
 
 -- the parts of an entry's text, one behind the other
-pub puts-entry : (e : Entry) {at : ℕ} {b₀ b₁ b₂ b₃ b₄ b₅ : List ℕ} {n₁ n₂ n₃ n₄ n₅ : ℕ} → Puts (decimal (e .target)) at b₀ b₁ n₁
+pub puts-entry : (e : Entry) {at : ℕ} {b₀ b₁ b₂ b₃ b₄ b₅ : List ℕ} {n₁ n₂ n₃ n₄ n₅ : ℕ}
+    → Puts (decimal (e .target)) at b₀ b₁ n₁
     → Puts space n₁ b₁ b₂ n₂ → Puts (decimal (e .left)) n₂ b₂ b₃ n₃ → Puts space n₃ b₃ b₄ n₄
     → Puts (rightText (e .right)) n₄ b₄ b₅ n₅ → Puts (entryText e) at b₀ b₅ n₅
 unfolding entryText
@@ -69,8 +70,10 @@ pub puts-same : {w v : List ℕ} {at : ℕ} {b c : List ℕ} {n : ℕ} → w ≡
 puts-same {at} {b} {c} {n} e p = subst (λ (u : List ℕ). Puts u at b c n) e p
 
 -- a word put at the start, where it fits: it is the first bytes, and the next position says how many
-pub puts-first : (w : List ℕ) {b c : List ℕ} {n : ℕ} → Puts w 0 b c n → length w ≤ length b → (n ≡ length w) × (take n c ≡ w)
-puts-first w {b} {c} {n} p h = (long, ap₂ (λ (k : ℕ) (l : List ℕ). take k l) long there ∙ take-append-seam w (drop (0 + length w) b))
+pub puts-first : (w : List ℕ) {b c : List ℕ} {n : ℕ} → Puts w 0 b c n → length w ≤ length b
+    → (n ≡ length w) × (take n c ≡ w)
+puts-first w {b} {c} {n} p h =
+    (long, ap₂ (λ (k : ℕ) (l : List ℕ). take k l) long there ∙ take-append-seam w (drop (0 + length w) b))
   where
     long : n ≡ length w
     long = omega (arith, p .behind (omega arith))

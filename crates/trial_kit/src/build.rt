@@ -1,5 +1,5 @@
-// Catalogues of many columns, rows or tables, written into lent bytes. Each function answers the position behind what it wrote; what does not
-// fit is left out.
+// Catalogues of many columns, rows or tables, written into lent bytes. Each function answers the position behind what
+// it wrote; what does not fit is left out.
 
 // One byte at a position.
 fn put(b: &mut [u8], at: usize, x: u8) -> usize {
@@ -39,7 +39,8 @@ fn codes(b: &mut [u8], at: usize, n: u32, first: u32) -> usize {
     next
 }
 
-// A table of n columns and r rows. Row k is under row k of the parent, and has the code k in its first column if `distinct`.
+// A table of n columns and r rows. Row k is under row k of the parent, and has the code k in its first column if
+// `distinct`.
 fn table(b: &mut [u8], at: usize, n: u32, parent: u32, r: u32, distinct: bool) -> usize {
     let mut next = put2(b, at, n);
     next = put2(b, next, parent);

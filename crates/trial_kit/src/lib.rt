@@ -1,6 +1,6 @@
-// Not for callers: what the trial programs share, small catalogues as their bytes (`album`), larger ones written into lent bytes (`build`), lent work words
-// before and after a call (`words`), and words on a line (`line`). It promises nothing but that it is safe and ends: what the trials printed is
-// compared with what they should.
+// Not for callers: what the trial programs share, small catalogues as their bytes (`album`), larger ones written into
+// lent bytes (`build`), lent work words before and after a call (`words`), and words on a line (`line`). It promises
+// nothing but that it is safe and ends: what the trials printed is compared with what they should.
 // Relies on `text` for entries and on `refusals` for the numbers of refusals. Called by the trial programs.
 mod album;
 mod build;

@@ -1,6 +1,7 @@
-// One listing call, and what it answered on a line: the next place, how many sets it passed and how many entries they have, or the refusal;
-// then how many records of the run are not zero (an entry 0 0 0 is), how many work words are 0, and the entries. All work words are 7 and all
-// records are zero before the call, and there is one work word more than is ever lent.
+// One listing call, and what it answered on a line: the next place, how many sets it passed and how many entries they
+// have, or the refusal; then how many records of the run are not zero (an entry 0 0 0 is), how many work words are 0,
+// and the entries. All work words are 7 and all records are zero before the call, and there is one work word more
+// than is ever lent.
 use listing::Filled;
 use listing::RUN_BOUND;
 use listing::list_filled;

@@ -55,8 +55,8 @@ fn visible(bytes: &mut [u8]) {
     trial_front(b"17 visible columns, list", bytes, n, 0, 1, 17);
 }
 
-// Two rows of 16 columns, of which the first is a key and the others have one code: the sets of no column, of one and of two; the last set;
-// the last place and the one after it.
+// Two rows of 16 columns, of which the first is a key and the others have one code: the sets of no column, of one and
+// of two; the last set; the last place and the one after it.
 fn wide(bytes: &mut [u8]) {
     let n = flat(bytes, 16, 2);
     trial_front(b"16 columns, 137 sets", bytes, n, 0, 137, 17);

@@ -13,8 +13,8 @@ use trial_kit::soil;
 // The album's sets, and its last place.
 const LAST: u32 = 10;
 
-// How a listing in steps ended: the place held, how many calls were answered, how many entries are joined, and the number of the refusal that
-// ended it, or 0.
+// How a listing in steps ended: the place held, how many calls were answered, how many entries are joined, and the
+// number of the refusal that ended it, or 0.
 struct Joined {
     place: u32,
     calls: u32,
@@ -53,7 +53,8 @@ fn join(joined: &mut [u32], n: usize, filled: Filled, count: u32) -> usize {
     next
 }
 
-// Calls from place 0 on, each with the place held, until the last place or a refusal. Every work word is 7 before each call.
+// Calls from place 0 on, each with the place held, until the last place or a refusal. Every work word is 7 before
+// each call.
 fn list_in_steps(
     cat: &[u8],
     budget: u32,

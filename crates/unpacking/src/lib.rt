@@ -1,6 +1,8 @@
-// Not for callers: what is read of a packed list: the trailer's two numbers; by what `packed::open` answered, the entry at a position, the position
-// after it and the part in front; and the entries from an index on that there is room for.
-// Relies on the definitions of `model`, on `file` for numbers in a file and on `entries` for the entries. Called by `packed`.
+// Not for callers: what is read of a packed list: the trailer's two numbers; by what `packed::open` answered, the
+// entry at a position, the position after it and the part in front; and the entries from an index on that there is
+// room for.
+// Relies on the definitions of `model`, on `file` for numbers in a file and on `entries` for the entries. Called by
+// `packed`.
 ghost use Prim.Native.Nat.{_+_, _-_, _*_, _<_, _^_};
 ghost use mathlib.Core.Path.{_≡_};
 ghost use lib.ListN.{length};
@@ -59,7 +61,8 @@ fn is_open(answer: OpenAnswer) -> bool
     }
 }
 
-// The entry at position i of a file that `open` gave an answer; 'end' from the last entry on, and where the file was refused.
+// The entry at position i of a file that `open` gave an answer; 'end' from the last entry on, and where the file was
+// refused.
 pub fn entry_at(file: &[u8], i: u32, answer: OpenAnswer) -> ReadAnswer
     ensures { λ r. ⌜ r ≡ readAt (entriesBy answer (now (file .entry))) i ⌝ }
 {

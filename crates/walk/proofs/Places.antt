@@ -1,4 +1,5 @@
--- Laws of where a set stands: what stands at its place, which set stands next, and how a place is found target by target.
+-- Laws of where a set stands: what stands at its place, which set stands next, and how a place is found target by
+-- target.
 use Prim.Native.Nat.{ℕ, zero, suc, _+_, _-_, _*_, _^_, _≤_, _<_}
 use mathlib.Core.Path.{_≡_, refl, sym, ap, subst, _∙_}
 use mathlib.Core.Logic.{_⊎_, inl, inr}
@@ -86,7 +87,8 @@ module _ (l : Listing) where
   unfolding cellsOf
   cells-last t i e =
       ap (λ (xs : List ℕ). cellsOf l t xs ++ cellsFrom l (l .targets - suc t) (suc t))
-      (ap (λ (k : ℕ). drop k (inOrder (widthOf l t))) (e ∙ sym (length-inOrder (widthOf l t))) ∙ drop-none (inOrder (widthOf l t)))
+      (ap (λ (k : ℕ). drop k (inOrder (widthOf l t))) (e ∙ sym (length-inOrder (widthOf l t)))
+      ∙ drop-none (inOrder (widthOf l t)))
 
   -- a target's sets, and then the later targets
   cells-target : (t : ℕ) → t < l .targets → cellsFrom l (l .targets - t) t ≡ cellsAt l t 0
@@ -160,7 +162,8 @@ module _ (l : Listing) where
     next-target e h =
         record {
           index = 0;
-          set = record { target = h; inside = pow-pos (widthOf l (suc t)); left = sym (first-empty (widthOf l (suc t))) };
+          set =
+              record { target = h; inside = pow-pos (widthOf l (suc t)); left = sym (first-empty (widthOf l (suc t))) };
           cells = p .cells ∙ cells-last t (suc (p .index)) (last-of e) ∙ cells-target (suc t) h;
         }
 
@@ -192,7 +195,8 @@ module _ (l : Listing) (place : ℕ) where
   unfolding cells
   passing-none h =
       let none = sym (sub-zero (l .targets)) in
-      let i : place < length (cellsFrom l (l .targets - 0) 0) = subst (λ (m : ℕ). place < length (cellsFrom l m 0)) none h in
+      let i : place < length (cellsFrom l (l .targets - 0) 0) =
+      subst (λ (m : ℕ). place < length (cellsFrom l m 0)) none h in
       record { target = some-left 0 place i; inside = i; cells = ap (λ (m : ℕ). drop place (cellsFrom l m 0)) none }
 
   sets-target : (t : ℕ) → t < l .targets
@@ -204,15 +208,16 @@ module _ (l : Listing) (place : ℕ) where
   module _ (t left : ℕ) (p : Passing l place t left) where
     passing-more : 2 ^ widthOf l t ≤ left → Passing l place (suc t) (left - 2 ^ widthOf l t)
     passing-more h =
-        let i : left - 2 ^ widthOf l t < length (cellsFrom l (l .targets - suc t) (suc t)) = omega (arith, p .inside, sets-target t (p .target)) in
+        let i : left - 2 ^ widthOf l t < length (cellsFrom l (l .targets - suc t) (suc t)) =
+        omega (arith, p .inside, sets-target t (p .target)) in
         let n = places-target l t in
         record {
           target = some-left (suc t) (left - 2 ^ widthOf l t) i;
           inside = i;
           cells =
               p .cells ∙ ap (drop left) (cells-target l t (p .target))
-              ∙ drop-past left (cellsOf l t (inOrder (widthOf l t))) (cellsFrom l (l .targets - suc t) (suc t)) (omega arith)
-              ∙ ap (λ (k : ℕ). drop (left - k) (cellsFrom l (l .targets - suc t) (suc t))) n;
+              ∙ drop-past left (cellsOf l t (inOrder (widthOf l t))) (cellsFrom l (l .targets - suc t) (suc t))
+              (omega arith) ∙ ap (λ (k : ℕ). drop (left - k) (cellsFrom l (l .targets - suc t) (suc t))) n;
         }
 
     -- the same in the words of the code

@@ -34,13 +34,15 @@ use Rattle.rights.proofs.Mask.{mask-lt, entries-count, entries-none, entries-of
 use Rattle.walk.specs.Places.{SetAt, SetBefore, Found}
 use Rattle.walk.specs.Meaning.{ahead, final, Sound, Good}
 use Rattle.walk.specs.Walks.{Fresh, First, Same, cellOf, movedTo, Passes, After, Follows, Stopped, Goes}
-use Rattle.walk.proofs.Places.{stands-cells, stands-inside, stands-before, chosen-lt, next-within, next-target, next-none, found-stands}
+use Rattle.walk.proofs.Places.{stands-cells, stands-inside, stands-before, chosen-lt, next-within, next-target}
+use Rattle.walk.proofs.Places.{next-none, found-stands}
 
 answers : {a b c d e f : ℕ} → a ≡ d → b ≡ e → c ≡ f → answered (a ∷ b ∷ c ∷ []) ≡ answered (d ∷ e ∷ f ∷ [])
 answers p q r = cc
 
 -- a set that fits is passed: what is ahead from its place is its entries, and what is ahead from the next
-module _ {A : Type 0} (cs : List (List A)) (p g r k : ℕ) (c : List A) (here : drop p cs ≡ c ∷ drop (suc p) cs) (some : 0 < g)
+module _ {A : Type 0} (cs : List (List A)) (p g r k : ℕ) (c : List A) (here : drop p cs ≡ c ∷ drop (suc p) cs)
+    (some : 0 < g)
     (size : k ≡ length c) (fits : k ≤ r) where
   next : drop (suc p) cs ≡ drop (p + 1) cs
   next = ap (λ (i : ℕ). drop i cs) (sym (add-one p))
@@ -70,7 +72,8 @@ module _ (l : Listing) (w : Walk) (nothing : w .pending ≡ 0) where
   stopped : passed (w .budget) (w .room) (drop (w .place) (cells l)) ≡ 0
       → written (w .budget) (w .room) (drop (w .place) (cells l)) ≡ [] → Stopped l w
   unfolding final
-  stopped p e = record { put = ahead-next ∙ e; reply = answers (omega arith) (omega arith) (omega (arith, ap length e)) }
+  stopped p e =
+      record { put = ahead-next ∙ e; reply = answers (omega arith) (omega arith) (omega (arith, ap length e)) }
 
   pub stopped-spent : w .budget ≡ 0 → Stopped l w
   stopped-spent z =
@@ -115,7 +118,8 @@ module _ (l : Listing) (w : Walk) (words : List ℕ) (f : Fresh l w words) where
     mask-below =
         let e : suc (widthOf l (w .target)) ≡ suc (w .members) = ap suc (sym (f .sound .members)) in
         subst (λ (k : ℕ). mask < 2 ^ k) e
-        (subst (λ (m : ℕ). m < 2 ^ suc (widthOf l (w .target))) (sym is) (mask-lt (l .view (w .target)) (l .rights (w .target)) (w .left)))
+        (subst (λ (m : ℕ). m < 2 ^ suc (widthOf l (w .target))) (sym is)
+        (mask-lt (l .view (w .target)) (l .rights (w .target)) (w .left)))
 
     cell-mask : cellOf l w ≡ entriesOfMask (w .target) (w .left) (w .members) mask
     cell-mask =
@@ -138,7 +142,8 @@ module _ (l : Listing) (w : Walk) (words : List ℕ) (f : Fresh l w words) where
     module _ (fits : ones mask ≤ w .room) where
       written-here : written (w .budget) (w .room) (drop (w .place) (cells l)) ≡ cellOf l w ++ rest
       written-here =
-          written-next (cells l) (w .place) (w .budget) (w .room) (ones mask) (cellOf l w) cell-here (f .budget) cell-size fits
+          written-next (cells l) (w .place) (w .budget) (w .room) (ones mask) (cellOf l w) cell-here
+          (f .budget) cell-size fits
 
       pass-put : ahead l (passedOn w mask) ≡ ahead l w
       unfolding ahead
@@ -148,12 +153,13 @@ module _ (l : Listing) (w : Walk) (words : List ℕ) (f : Fresh l w words) where
       pass-reply : final l (passedOn w mask) ≡ final l w
       unfolding final
       pass-reply =
-          let p = passed-next (cells l) (w .place) (w .budget) (w .room) (ones mask) (cellOf l w) cell-here (f .budget) cell-size fits in
+          let p = passed-next (cells l) (w .place) (w .budget) (w .room) (ones mask) (cellOf l w) cell-here
+          (f .budget) cell-size fits in
           let k = ap length written-here ∙ length-append (cellOf l w) rest in
           answers (omega arith) (omega arith) (omega (arith, cell-size))
 
-      pass-at : (after : List ℕ) → (0 < w .budget - 1 → Ready l (w .target) (w .held) (w .own) after) → length after ≡ length words
-          → Passes l w (At (passedOn w mask)) after
+      pass-at : (after : List ℕ) → (0 < w .budget - 1 → Ready l (w .target) (w .held) (w .own) after)
+          → length after ≡ length words → Passes l w (At (passedOn w mask)) after
       pass-at after ready same = (
         record {
           sound =
@@ -186,8 +192,8 @@ module _ (l : Listing) (w : Walk) (words : List ℕ) (f : Fresh l w words) where
         }
 
     -- what passing the set answers is right, if the words are ready wherever more sets can be passed
-    pub passes-by : (after : List ℕ) → (0 < w .budget - 1 → Ready l (w .target) (w .held) (w .own) after) → length after ≡ length words → (r : Reached)
-        → r ≡ passedBy w mask → Passes l w r after
+    pub passes-by : (after : List ℕ) → (0 < w .budget - 1 → Ready l (w .target) (w .held) (w .own) after)
+        → length after ≡ length words → (r : Reached) → r ≡ passedBy w mask → Passes l w r after
     unfolding passedBy
     passes-by after ready same r e = at (decLt (w .room) (ones mask))
       where
@@ -222,7 +228,8 @@ module _ (l : Listing) (w : Walk) (nothing : w .pending ≡ 0) where
         budget = some;
       }
 
--- a walk that is to pass its set, with the words made ready for its target: passing the set of the one is passing that of the other
+-- a walk that is to pass its set, with the words made ready for its target: passing the set of the one is passing
+-- that of the other
 module _ (l : Listing) (w : Walk) (words : List ℕ) (f : Fresh l w words) {v : Walk} {held : Held} {own : ℕ}
     (is : v ≡ movedTo w (w .target) (w .left) (w .members) held own) where
   pub entered-fresh : (after : List ℕ) → length after ≡ length words → Fresh l v after
@@ -231,7 +238,8 @@ module _ (l : Listing) (w : Walk) (words : List ℕ) (f : Fresh l w words) {v : 
       (moved-fresh l w (f .pending) (w .target) (w .left) (w .members) held own words after (f .sound) same (f .budget)
       (f .stands) (f .sound .members))
 
-  pub entered-ready : {after : List ℕ} → Ready l (w .target) held own after → Ready l (v .target) (v .held) (v .own) after
+  pub entered-ready : {after : List ℕ} → Ready l (w .target) held own after
+      → Ready l (v .target) (v .held) (v .own) after
   entered-ready {after} ready = subst (λ (u : Walk). Ready l (u .target) (u .held) (u .own) after) (sym is) ready
 
   moved-passes : (r : Reached) (after : List ℕ)
@@ -253,7 +261,8 @@ module _ (l : Listing) (w : Walk) (words : List ℕ) (g : Good l w words) (nothi
   good-few = g .sound .bounded .members (w .target) good-target
 
   -- what the set answers as its next is the next of its number
-  next-of : {r : SetOrNone} → nextOf (w .members) (membersOf (w .left)) ≡ r → nextOf (widthOf l (w .target)) (w .left) ≡ r
+  next-of : {r : SetOrNone} → nextOf (w .members) (membersOf (w .left)) ≡ r → nextOf (widthOf l (w .target)) (w .left)
+      ≡ r
   next-of e =
       let s = g .stands in
       let lt = chosen-lt l (w .target) (w .left) (s .index) (s .set) in
@@ -289,7 +298,8 @@ module _ (l : Listing) (w : Walk) (words : List ℕ) (g : Good l w words) (nothi
       (next-target l (w .target) (w .left) (w .place) (g .stands) good-few (next-of e) (omega arith)))
       v ready same
 
-  pub follow-none : (after : List ℕ) → nextOf (w .members) (membersOf (w .left)) ≡ Nothing → l .targets ≤ w .target + 1 → Follows l w Stop after
+  pub follow-none : (after : List ℕ) → nextOf (w .members) (membersOf (w .left)) ≡ Nothing → l .targets ≤ w .target + 1
+      → Follows l w Stop after
   follow-none after e h =
       next-none l (w .target) (w .left) (w .place) (g .stands) good-few
       (next-of e) (omega arith)

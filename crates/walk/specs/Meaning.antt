@@ -1,5 +1,5 @@
--- What a call on a listing has before it, and where a walk through it stands. The walk of `list` cites these names and looks into none of
--- them.
+-- What a call on a listing has before it, and where a walk through it stands. The walk of `list` cites these names
+-- and looks into none of them.
 use Prim.Native.Nat.{ℕ, suc, _+_, _*_, _^_, _≤_, _<_}
 use mathlib.Core.Path.{_≡_}
 use mathlib.Core.List.{List, [], _∷_, _++_}
@@ -41,8 +41,8 @@ pub record Sound (l : Listing) (w : Walk) (words : List ℕ) : Type 0 where
   pub passed : w .passed ≤ w .place
   pub counted : w .count ≤ rightBound * w .place
 
--- what holds between two steps: the walk's set stands before the place, what is pending are rights of it, and where more sets can be passed
--- the words are ready for its target
+-- what holds between two steps: the walk's set stands before the place, what is pending are rights of it, and where
+-- more sets can be passed the words are ready for its target
 pub record Good (l : Listing) (w : Walk) (words : List ℕ) : Type 0 where
   pub sound : Sound l w words
   pub stands : SetBefore l (w .target) (w .left) (w .place)

@@ -45,7 +45,8 @@ fn entering(w: Walk, target: u32, left: u32, members: u32, entered: Entered) -> 
     }
 }
 
-// Passes the first set of a call: by itself where it is the only one that can be passed, and else with the words made ready for its target.
+// Passes the first set of a call: by itself where it is the only one that can be passed, and else with the words made
+// ready for its target.
 pub fn pass_first(cat: &[u8], w: Walk, work: &mut [u32]) -> Reached
     requires { ⌜ Accepted (now cat) ⌝ }
     requires { ⌜ Fresh (ordinary (now cat)) w (now work) ⌝ }

@@ -76,7 +76,8 @@ loop-less c = search needs
 loop-again : tie.Need-loop-again Inv-loop μ-loop
 loop-again c =
     let l = c .before .before .before .before .before in
-    let e : nextOf (l .before .before .before .before .args .n) (membersOf (l .loop .x)) ≡ Set (c .before .y .given .0 .0) = cc in
+    let e : nextOf (l .before .before .before .before .args .n) (membersOf (l .loop .x))
+    ≡ Set (c .before .y .given .0 .0) = cc in
     let y = next-below _ _ _ (omega arith) e in
     (omega arith, lefts-more _ _ _ _ _ _ _ _ (omega arith) (omega arith) y (l .loop .inv .1))
 

@@ -29,8 +29,11 @@ loop-less c = search needs
 
 loop-again : tie.Need-loop-again Inv-loop μ-loop
 loop-again c =
-    let f = c .number-member .ensures in
-    (omega arith, numbered-more _ (c .before .before .before .before .pre .1) (f .0) (f .1) (c .before .before .before .loop .inv .1))
+    let f = c .number-member .ensures in (
+      omega arith,
+      numbered-more _ (c .before .before .before .before .pre .1) (f .0) (f .1)
+          (c .before .before .before .loop .inv .1),
+    )
 
 returns : tie.Need-returns Inv-loop μ-loop
 returns c = numbered-all _ (omega arith) (c .before .loop .inv .1)

@@ -10,7 +10,8 @@ use Rattle.classes.proofs.number_member.Statement.{statement}
 use Rattle.classes.proofs.number_member.Tie as tie
 
 abbrev Inv-loop : tie.InvT-loop
-Inv-loop keys k end bytes₀ count₀ q₀ bytes count q = (q ≤ end) × OnlyMember k bytes₀ bytes × Numbering keys k q count bytes
+Inv-loop keys k end bytes₀ count₀ q₀ bytes count q =
+    (q ≤ end) × OnlyMember k bytes₀ bytes × Numbering keys k q count bytes
 
 abbrev μ-loop : tie.MeasureT-loop
 μ-loop keys k end bytes₀ count₀ q₀ bytes count q = end - q

@@ -59,7 +59,8 @@ returns-3 c =
     let h = c .before .before .before .before .before .before .before .before .pre in
     let p = c .before .before .before .before .before .before .row-of in (
       only-set _ _ _ _ (h .0 .1),
-      λ _. numbered-as (h .0 .0) (h .0 .1) (p .result) (omega arith) (sym (p .ensures)) (sym (c .before .before .row-of2 .ensures) ∙ c .before .if3 .left) (h .1),
+      λ _. numbered-as (h .0 .0) (h .0 .1) (p .result) (omega arith) (sym (p .ensures))
+          (sym (c .before .before .row-of2 .ensures) ∙ c .before .if3 .left) (h .1),
     )
 
 returns-4 : tie.Need-returns-4
@@ -81,7 +82,8 @@ returns-5 : tie.Need-returns-5
 returns-5 c =
     let h = c .before .before .before .before .before .pre in (
       only-set _ _ _ _ (h .0 .1),
-      λ _. numbered-next (h .0 .0) (h .0 .1) (omega arith) (sym (c .before .before .before .row-of .ensures) ∙ c .before .if2 .left) (h .1),
+      λ _. numbered-next (h .0 .0) (h .0 .1) (omega arith)
+          (sym (c .before .before .before .row-of .ensures) ∙ c .before .if2 .left) (h .1),
     )
 
 pub number-row-spec : {M : Type 1} → statement M

@@ -35,7 +35,8 @@ add-result : tie.Need-add-result
 add-result c = search needs
 
 returns : tie.Need-returns
-returns c = let a = c .before .before .before .args in omega (arith, halves (now (a .cat)) (a .o), c .before .short-at .ensures, c .short-at2 .ensures)
+returns c = let a = c .before .before .before .args in
+    omega (arith, halves (now (a .cat)) (a .o), c .before .short-at .ensures, c .short-at2 .ensures)
 
 pub code-at-spec : {M : Type 1} → statement M
 code-at-spec =

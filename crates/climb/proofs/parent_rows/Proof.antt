@@ -1,4 +1,5 @@
--- `climb::parent_rows` meets its contract. The invariant: the rows below q are moved. The measure is what is left of them.
+-- `climb::parent_rows` meets its contract. The invariant: the rows below q are moved. The measure is what is left of
+-- them.
 use Prim.Native.Nat.{ℕ, _+_, _-_, _*_, _≤_}
 use mathlib.Core.Path.{_≡_, ap, _∙_}
 use native.Mathlib.Omega.{arith}
@@ -12,7 +13,8 @@ use Rattle.climb.proofs.parent_rows.Statement.{statement}
 use Rattle.climb.proofs.parent_rows.Tie as tie
 
 abbrev Inv-loop : tie.InvT-loop
-Inv-loop b o width end reached₀ q₀ reached q = (q ≤ end) × Filled 0 q (λ p. u16At b (o + getD reached₀ p 0 * width)) reached₀ reached
+Inv-loop b o width end reached₀ q₀ reached q =
+    (q ≤ end) × Filled 0 q (λ p. u16At b (o + getD reached₀ p 0 * width)) reached₀ reached
 
 abbrev μ-loop : tie.MeasureT-loop
 μ-loop b o width end reached₀ q₀ reached q = end - q
@@ -31,7 +33,8 @@ index-requires c κs = search needs
 
 -- the row read is the one that was there before, and stands within the bytes
 row : (c : tie.After-index Inv-loop μ-loop)
-    → c .index .result ≡ getD (now (c .before .before .before .before .before .args .reached)) (c .before .before .before .loop .q) 0
+    → c .index .result ≡ getD (now (c .before .before .before .before .before .args .reached))
+    (c .before .before .before .loop .q) 0
 row c = let l = c .before .before .before .loop in c .index .ensures ∙ l .inv .1 .past (l .q) (omega arith)
 
 within : (c : tie.After-index Inv-loop μ-loop)
@@ -42,7 +45,8 @@ within c =
     omega (
       arith,
       ap (λ (x : ℕ). x * a .width) (row c),
-      c .before .before .before .before .before .pre .1 (c .before .before .before .loop .q) (c .before .before .loop-test .taken),
+      c .before .before .before .before .before .pre .1 (c .before .before .before .loop .q)
+          (c .before .before .loop-test .taken),
     )
 
 mul-short-at : tie.Need-mul-short-at Inv-loop μ-loop

@@ -3,7 +3,8 @@ use mathlib.Core.Path.{sym, _∙_}
 use mathlib.Core.Bool.{true, false}
 use lib.ListN.{length}
 use denote.Ref.{now}
-use Rattle.dependency.proofs.Replies.{refused-number, question-posed, ask-refused, ask-told, words-kept, words-zeroed}
+use Rattle.dependency.proofs.Replies.{refused-number, question-posed, ask-refused, ask-told, words-kept}
+use Rattle.dependency.proofs.Replies.{words-zeroed}
 use borrow.Author.Needs.{needs}
 use Rattle.dependency.proofs.ask.Statement.{statement}
 use Rattle.dependency.proofs.ask.Tie as tie
@@ -49,7 +50,8 @@ returns-2 c =
     ask-told (now (a .cat)) (a .target) (a .left) (a .right) (length (now (a .work))) true e z
     (sym (c .if2 .taken) ∙ c .before .holds .ensures) in
     let words =
-    words-zeroed (now (a .cat)) (a .target) (a .left) (a .right) (now (a .work)) e z (c .before .before .before .before .zero-words .ensures) in
+    words-zeroed (now (a .cat)) (a .target) (a .left) (a .right) (now (a .work)) e z
+    (c .before .before .before .before .zero-words .ensures) in
     (reply, words)
 
 same-length-2 : tie.Need-same-length-2
@@ -64,7 +66,8 @@ returns-3 c =
     ask-told (now (a .cat)) (a .target) (a .left) (a .right) (length (now (a .work))) false e z
     (sym (c .if2 .left) ∙ c .before .holds .ensures) in
     let words =
-    words-zeroed (now (a .cat)) (a .target) (a .left) (a .right) (now (a .work)) e z (c .before .before .before .before .zero-words .ensures) in
+    words-zeroed (now (a .cat)) (a .target) (a .left) (a .right) (now (a .work)) e z
+    (c .before .before .before .before .zero-words .ensures) in
     (reply, words)
 
 pub ask-spec : {M : Type 1} → statement M

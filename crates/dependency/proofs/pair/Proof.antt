@@ -4,7 +4,8 @@ use lib.ListN.{length}
 use denote.Ref.{now}
 use Rattle.model.specs.Target.{view}
 use Rattle.search.specs.Strays.{FirstBreaking}
-use Rattle.dependency.proofs.Replies.{refused-number, question-posed, pair-refused, pair-none, pair-breaking, words-kept, words-zeroed}
+use Rattle.dependency.proofs.Replies.{refused-number, question-posed, pair-refused, pair-none, pair-breaking}
+use Rattle.dependency.proofs.Replies.{words-kept, words-zeroed}
 use borrow.Author.Needs.{needs}
 use Rattle.dependency.proofs.pair.Statement.{statement}
 use Rattle.dependency.proofs.pair.Tie as tie

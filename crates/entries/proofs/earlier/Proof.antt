@@ -15,7 +15,8 @@ size-requires-2 : tie.Need-size-requires-2
 size-requires-2 c κs = search needs
 
 returns-2 : tie.Need-returns-2
-returns-2 c = by-size _ _ (omega arith) (c .before .before .size .ensures) (c .before .size2 .ensures) (λ z. omega arith)
+returns-2 c =
+    by-size _ _ (omega arith) (c .before .before .size .ensures) (c .before .size2 .ensures) (λ z. omega arith)
 
 returns-3 : tie.Need-returns-3
 returns-3 c =

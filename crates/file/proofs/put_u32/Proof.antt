@@ -43,7 +43,8 @@ same-length : tie.Need-same-length
 same-length c = search needs
 
 returns : tie.Need-returns
-returns c = stores-four _ _ _ (c .before .before .before .low .ensures) (c .before .before .low2 .ensures) (c .before .low3 .ensures) (c .low4 .ensures)
+returns c = stores-four _ _ _ (c .before .before .before .low .ensures) (c .before .before .low2 .ensures)
+    (c .before .low3 .ensures) (c .low4 .ensures)
 
 pub put-u32-spec : {M : Type 1} → statement M
 put-u32-spec =

@@ -66,7 +66,8 @@ returns : tie.Need-returns Inv-loop μ-loop
 returns c =
     let now-at = c .before .before .before .before .loop in
     let table = c .before .before .before .before .before .before in
-    let e = row-code-is _ _ (now-at .k) (c .before .row-code .ensures) (c .before .before .u16-at .ensures) (now-at .inv .3)
+    let e =
+    row-code-is _ _ (now-at .k) (c .before .row-code .ensures) (c .before .before .u16-at .ensures) (now-at .inv .3)
     (table .rows2 .ensures) (table .before .parent .ensures) in
     first-found _ (now-at .k) _ (now-at .inv .0) (omega arith) e (c .if1 .taken)
 
@@ -84,7 +85,8 @@ loop-again c =
     let now-at = c .before .before .before .before .loop in
     let table = c .before .before .before .before .before .before in
     let args = table .before .before .before .before .before .args in
-    let e = row-code-is _ _ (now-at .k) (c .before .row-code .ensures) (c .before .before .u16-at .ensures) (now-at .inv .3)
+    let e =
+    row-code-is _ _ (now-at .k) (c .before .row-code .ensures) (c .before .before .u16-at .ensures) (now-at .inv .3)
     (table .rows2 .ensures) (table .before .parent .ensures) in (
       none-below-more _ (now-at .k) _ (now-at .inv .0) (omega arith) (sym e ∙ omega arith),
       search needs,

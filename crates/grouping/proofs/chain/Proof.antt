@@ -1,4 +1,5 @@
--- `grouping::chain` meets its contract: the sum of the two products fits 64 bits, as the two factors together are below 2 ^ 32.
+-- `grouping::chain` meets its contract: the sum of the two products fits 64 bits, as the two factors together are
+-- below 2 ^ 32.
 use Prim.Native.Nat.{ℕ, _+_, _*_, _<_}
 use mathlib.Core.Path.{refl}
 use native.Mathlib.Nat.{mod-lt}
@@ -14,7 +15,8 @@ mul-result c = search needs
 mul-result-2 : tie.Need-mul-result-2
 mul-result-2 c = search needs
 
-sum-fits : (low high : ℕ) → low < 4294967296 → high < 4294967296 → low * 2246822519 + high * 1640531527 < 18446744073709551616
+sum-fits : (low high : ℕ) → low < 4294967296 → high < 4294967296
+    → low * 2246822519 + high * 1640531527 < 18446744073709551616
 sum-fits low high l h = omega arith
 
 add-result : tie.Need-add-result

@@ -1,4 +1,5 @@
--- `grouping::group` meets its contract. The loop's invariant: the rows before q have their leaders. The measure is what is left of the rows.
+-- `grouping::group` meets its contract. The loop's invariant: the rows before q have their leaders. The measure is
+-- what is left of the rows.
 use Prim.Native.Nat.{_-_}
 use native.Mathlib.Omega.{arith}
 use borrow.Author.Needs.{needs}

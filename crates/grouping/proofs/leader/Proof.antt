@@ -1,8 +1,9 @@
--- `grouping::leader` meets its contract. The loop's invariant: c is a place in the chain of row q, and no leader from there on has the word of q. The
--- measure is the place.
+-- `grouping::leader` meets its contract. The loop's invariant: c is a place in the chain of row q, and no leader from
+-- there on has the word of q. The measure is the place.
 use borrow.Author.Needs.{needs}
 use native.Mathlib.Omega.{arith}
-use Rattle.grouping.proofs.Chains.{Walking, walking-begun, walking-link, walking-more, walking-found, walking-done}
+use Rattle.grouping.proofs.Chains.{Walking, walking-begun, walking-link, walking-more, walking-found}
+use Rattle.grouping.proofs.Chains.{walking-done}
 use Rattle.grouping.proofs.leader.Statement.{statement}
 use Rattle.grouping.proofs.leader.Tie as tie
 
@@ -46,10 +47,12 @@ element-copy-out-c : tie.Need-element-copy-out-c Inv-loop μ-loop
 element-copy-out-c c = search needs
 
 cast-c : tie.Need-cast-c Inv-loop μ-loop
-cast-c c = let l = walking-link _ _ _ _ (c .before .before .before .before .loop .inv) (omega arith) in omega (arith, l .high)
+cast-c c =
+    let l = walking-link _ _ _ _ (c .before .before .before .before .loop .inv) (omega arith) in omega (arith, l .high)
 
 loop-less : tie.Need-loop-less Inv-loop μ-loop
-loop-less c = let l = walking-link _ _ _ _ (c .before .before .before .before .loop .inv) (omega arith) in omega (arith, l .high)
+loop-less c =
+    let l = walking-link _ _ _ _ (c .before .before .before .before .loop .inv) (omega arith) in omega (arith, l .high)
 
 loop-again : tie.Need-loop-again Inv-loop μ-loop
 loop-again c = walking-more _ _ _ _ (c .before .before .before .before .loop .inv) (omega arith) (c .before .if1 .left)

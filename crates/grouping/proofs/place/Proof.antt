@@ -1,4 +1,5 @@
--- `grouping::place` meets its contract: what the walk finds is the leader, and a row that leads itself becomes the head of its chain.
+-- `grouping::place` meets its contract: what the walk finds is the leader, and a row that leads itself becomes the
+-- head of its chain.
 use native.Mathlib.Omega.{arith}
 use borrow.Author.Needs.{needs}
 use Rattle.leaders.proofs.Numbers.{firstSame-le}
@@ -27,7 +28,8 @@ leader-requires c κs =
     (search needs, (chained-head k (c .before .before .chain .ensures), k .linked))
 
 cast-leaders : tie.Need-cast-leaders
-cast-leaders c = let a = c .before .before .before .before .before .args in omega (arith, c .leader .ensures, firstSame-le (a .words .now) (a .q))
+cast-leaders c = let a = c .before .before .before .before .before .args in
+    omega (arith, c .leader .ensures, firstSame-le (a .words .now) (a .q))
 
 mul-leaders : tie.Need-mul-leaders
 mul-leaders c = search needs
@@ -36,7 +38,8 @@ element-write-leaders : tie.Need-element-write-leaders
 element-write-leaders c = search needs
 
 returns : tie.Need-returns
-returns c = placed-follower _ _ _ _ _ _ (c .before .leader .ensures) (c .before .before .before .before .before .before .pre .1 .0) (c .if1 .taken)
+returns c = placed-follower _ _ _ _ _ _ (c .before .leader .ensures)
+    (c .before .before .before .before .before .before .pre .1 .0) (c .if1 .taken)
 
 mul-links : tie.Need-mul-links
 mul-links c = search needs

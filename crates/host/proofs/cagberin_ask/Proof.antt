@@ -57,8 +57,11 @@ returns-3 : tie.Need-returns-3
 returns-3 c =
     let a = c .before .before .before .before .before .before .before .before .before .before .args in
     let told = c .before .before .before .before .before .before .ask .ensures in
-    let meant = askMeaning (now (a .cat)) (a .target) (a .left) (a .right) (length (now (a .work))) in
-    (read-back32 (c .before .before .r .given .0 .0) (c .negative .ensures) ∙ shown meant (c .before .before .r .given .1) (told .0), told .1)
+    let meant = askMeaning (now (a .cat)) (a .target) (a .left) (a .right) (length (now (a .work))) in (
+      read-back32 (c .before .before .r .given .0 .0) (c .negative .ensures)
+          ∙ shown meant (c .before .before .r .given .1) (told .0),
+      told .1,
+    )
 
 pub cagberin-ask-spec : {M : Type 1} → statement M
 cagberin-ask-spec =

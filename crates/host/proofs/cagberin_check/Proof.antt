@@ -29,8 +29,12 @@ returns c =
 returns-2 : tie.Need-returns-2
 returns-2 c =
     let a = c .before .before .before .before .before .before .args in
-    let e = sym (ap checkReply (c .before .before .r .given .1)) ∙ c .before .before .before .before .check .ensures in
-    (read-back32 (c .before .before .r .given .0 .0) (c .negative .ensures) ∙ ap statusOf e, (ap (valueOr 0 (now (a .tables))) e, ap (valueOr 1 (now (a .sets))) e))
+    let e =
+    sym (ap checkReply (c .before .before .r .given .1)) ∙ c .before .before .before .before .check .ensures in (
+      read-back32 (c .before .before .r .given .0 .0) (c .negative .ensures)
+          ∙ ap statusOf e,
+      (ap (valueOr 0 (now (a .tables))) e, ap (valueOr 1 (now (a .sets))) e),
+    )
 
 pub cagberin-check-spec : {M : Type 1} → statement M
 cagberin-check-spec =

@@ -32,8 +32,12 @@ returns c =
 returns-2 : tie.Need-returns-2
 returns-2 c =
     let a = c .before .before .before .before .before .before .args in
-    let e = sym (ap openReply (c .before .before .r .given .1)) ∙ c .before .before .before .before .«open» .ensures in
-    (read-back64 (c .before .before .r .given .0 .0) (c .wide-negative .ensures) ∙ ap (numberOf 0) e, ap (valueOr 1 (now (a .front))) e)
+    let e =
+    sym (ap openReply (c .before .before .r .given .1)) ∙ c .before .before .before .before .«open» .ensures in (
+      read-back64 (c .before .before .r .given .0 .0) (c .wide-negative .ensures)
+          ∙ ap (numberOf 0) e,
+      ap (valueOr 1 (now (a .front))) e,
+    )
 
 pub cagberin-open-spec : {M : Type 1} → statement M
 cagberin-open-spec =

@@ -34,8 +34,10 @@ returns : tie.Need-returns
 returns c =
     let a = c .before .before .before .before .before .before .before .before .before .args in
     let told = c .before .before .before .before .before .pair .ensures in
-    let meant = PairMeaning (now (a .cat)) (a .target) (a .left) (a .right) (length (now (a .work))) in
-    (subst (λ (r : PairAnswer). meant (pairReply r)) (c .before .p .given .1) (told .0), ((λ n. absurd (n refl)), told .1))
+    let meant = PairMeaning (now (a .cat)) (a .target) (a .left) (a .right) (length (now (a .work))) in (
+      subst (λ (r : PairAnswer). meant (pairReply r)) (c .before .p .given .1) (told .0),
+      ((λ n. absurd (n refl)), told .1),
+    )
 
 same-length-2 : tie.Need-same-length-2
 same-length-2 c = search needs
@@ -56,8 +58,10 @@ returns-3 c =
     let told = c .before .before .before .before .before .before .pair .ensures in
     let meant = PairMeaning (now (a .cat)) (a .target) (a .left) (a .right) (length (now (a .work))) in
     let e =
-    ap (λ (z : ℤ). pairSeen z (now (a .first)) (now (a .second))) (read-back32 (c .before .before .r .given .0 .0) (c .negative .ensures))
-    ∙ refused-seen (c .before .before .r .given .0 .0) (λ z. pairSeen z (now (a .first)) (now (a .second))) (λ n. refl) in
+    ap (λ (z : ℤ). pairSeen z (now (a .first)) (now (a .second)))
+    (read-back32 (c .before .before .r .given .0 .0) (c .negative .ensures))
+    ∙ refused-seen (c .before .before .r .given .0 .0) (λ z. pairSeen z (now (a .first)) (now (a .second)))
+    (λ n. refl) in
     let refusal = subst (λ (r : PairAnswer). meant (pairReply r)) (c .before .before .r .given .1) (told .0) in
     (subst meant (sym e) refusal, ((λ n. (refl, refl)), told .1))
 

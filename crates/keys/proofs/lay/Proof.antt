@@ -14,7 +14,8 @@ use Rattle.model.specs.Catalogue.{tableAt, columns, rows}
 use Rattle.model.specs.Check.{Accepted}
 use Rattle.model.proofs.Check.{accepted-rows}
 use Rattle.climb.proofs.Within.{entry-within, head-within}
-use Rattle.keys.proofs.Laying.{Laying, laying-begun, own-left, few-left, rows-within, laying-done, parent-lower, laying-next}
+use Rattle.keys.proofs.Laying.{Laying, laying-begun, own-left, few-left, rows-within, laying-done, parent-lower}
+use Rattle.keys.proofs.Laying.{laying-next}
 use Rattle.keys.proofs.lay.Statement.{statement}
 use Rattle.keys.proofs.lay.Tie as tie
 
@@ -40,7 +41,12 @@ own-rows-requires : tie.Need-own-rows-requires Inv-loop μ-loop
 own-rows-requires c κs =
     let a = c .before .before .before .before .before .args in
     let h = c .before .before .before .before .before .pre in (
-      omega (arith, c .before .index .ensures, c .before .before .rows .ensures, accepted-rows (now (a .cat)) (h .0) (a .target) (h .1 .0)),
+      omega (
+        arith,
+        c .before .index .ensures,
+        c .before .before .rows .ensures,
+        accepted-rows (now (a .cat)) (h .0) (a .target) (h .1 .0),
+      ),
       length-replicate {A = ℕ} rowBound 0,
     )
 
@@ -48,8 +54,10 @@ loop-holds : tie.Need-loop-holds Inv-loop μ-loop
 loop-holds c =
     let a = c .before .before .before .before .before .before .args in
     let h = c .before .before .before .before .before .before .pre in
-    laying-begun (now (a .cat)) (a .target) (a .n) (a .set) (c .before .before .index .result) _ _ _ (h .1 .0) (h .1 .1 .0)
-    (c .before .before .index .ensures ∙ c .before .before .before .rows .ensures) (length-replicate {A = ℕ} rowBound 0) (h .1 .1 .1)
+    laying-begun (now (a .cat)) (a .target) (a .n) (a .set) (c .before .before .index .result) _ _ _ (h .1 .0)
+    (h .1 .1 .0)
+    (c .before .before .index .ensures ∙ c .before .before .before .rows .ensures) (length-replicate {A = ℕ} rowBound 0)
+    (h .1 .1 .1)
     (c .own-rows .ensures)
 
 -- the bytes, accepted; the target's rows; and where the table stands and how many columns it has
@@ -60,7 +68,8 @@ ok : (c : tie.At-loop Inv-loop μ-loop) → Accepted (bytes c)
 ok c = c .before .before .before .before .before .before .before .pre .0
 
 ends : (c : tie.At-loop Inv-loop μ-loop)
-    → c .before .before .before .index .result ≡ rows (bytes c) (c .before .before .before .before .before .before .before .args .target)
+    → c .before .before .before .index .result
+    ≡ rows (bytes c) (c .before .before .before .before .before .before .before .args .target)
 ends c = c .before .before .before .index .ensures ∙ c .before .before .before .before .rows .ensures
 
 entry : (c : tie.At-loop Inv-loop μ-loop)
@@ -76,17 +85,24 @@ table : (c : tie.After-code-at Inv-loop μ-loop) → c .code-at .result ≡ tabl
 unfolding tableAt
 table c =
     let l = c .before in
-    c .code-at .ensures ∙ ap (λ (x : ℕ). u32At (bytes l) (x + 4 * l .loop .at)) (l .before .before .before .before .before .trailer .ensures)
+    c .code-at .ensures ∙ ap (λ (x : ℕ). u32At (bytes l) (x + 4 * l .loop .at))
+    (l .before .before .before .before .before .trailer .ensures)
 
 head : (c : tie.After-code-at Inv-loop μ-loop) → c .code-at .result + 6 ≤ length (bytes (c .before))
 head c =
-    omega (arith, table c, head-within (bytes (c .before)) (ok (c .before)) (c .before .loop .at) (c .before .loop .inv .table))
+    omega (
+      arith,
+      table c,
+      head-within (bytes (c .before)) (ok (c .before)) (c .before .loop .at)
+          (c .before .loop .inv .table),
+    )
 
 own : (c : tie.After-index2 Inv-loop μ-loop)
     → c .index2 .result ≡ columns (bytes (c .before .before .before)) (c .before .before .before .loop .at)
 unfolding columns
 own c =
-    c .index2 .ensures ∙ c .before .short-at .ensures ∙ ap (u16At (bytes (c .before .before .before))) (table (c .before .before))
+    c .index2 .ensures ∙ c .before .short-at .ensures
+    ∙ ap (u16At (bytes (c .before .before .before))) (table (c .before .before))
 
 mul-code-at : tie.Need-mul-code-at Inv-loop μ-loop
 mul-code-at c = omega (arith, entry c)
@@ -120,10 +136,17 @@ few c =
 short : (c : tie.At-loop Inv-loop μ-loop) → c .before .before .before .index .result ≤ rowBound
 short c =
     let h = c .before .before .before .before .before .before .before .pre in
-    omega (arith, ends c, accepted-rows (bytes c) (ok c) (c .before .before .before .before .before .before .before .args .target) (h .1 .0))
+    omega (
+      arith,
+      ends c,
+      accepted-rows (bytes c) (ok c)
+          (c .before .before .before .before .before .before .before .args .target) (h .1 .0),
+    )
 
-within : (c : tie.After-index2 Inv-loop μ-loop) (q : ℕ) → q < c .before .before .before .before .before .before .index .result
-    → c .before .before .code-at .result + 6 + getD (c .before .before .before .loop .reached) q 0 * (2 + 4 * c .index2 .result)
+within : (c : tie.After-index2 Inv-loop μ-loop) (q : ℕ)
+    → q < c .before .before .before .before .before .before .index .result
+    → c .before .before .code-at .result + 6 + getD (c .before .before .before .loop .reached) q 0
+    * (2 + 4 * c .index2 .result)
     + (2 + 4 * c .index2 .result)
     ≤ length (bytes (c .before .before .before))
 within c q h =
@@ -148,16 +171,18 @@ power-requires c κs = omega (arith, few (c .before .before .before))
 
 rem-if1 : tie.Need-rem-if1 Inv-loop μ-loop
 rem-if1 c =
-    let i = c .before .before .before .before in omega (arith, c .power .ensures, pow-pos (i .before .before .before .loop .above - i .index2 .result))
+    let i = c .before .before .before .before in
+    omega (arith, c .power .ensures, pow-pos (i .before .before .before .loop .above - i .index2 .result))
 
 returns : tie.Need-returns Inv-loop μ-loop
 returns c =
     let i = c .before .before .before .before .before in
     let l = i .before .before .before in (
       c .before .before .lay-table .ensures .same-length ∙ l .loop .inv .long,
-      laying-done (bytes l) (ok l) (l .loop .inv) (table (i .before .before)) (own i) _ _ (ends l) (c .before .before .lay-table .ensures)
-          (ap (λ (x : ℕ). l .before .before .before .before .before .before .before .args .set % x) (sym (c .before .power .ensures))
-          ∙ c .if1 .taken),
+      laying-done (bytes l) (ok l) (l .loop .inv) (table (i .before .before)) (own i) _ _ (ends l)
+          (c .before .before .lay-table .ensures)
+          (ap (λ (x : ℕ). l .before .before .before .before .before .before .before .args .set % x)
+          (sym (c .before .power .ensures)) ∙ c .if1 .taken),
     )
 
 add-parent-rows : tie.Need-add-parent-rows Inv-loop μ-loop
@@ -180,7 +205,8 @@ add-short-at : tie.Need-add-short-at Inv-loop μ-loop
 add-short-at c = search needs
 
 short-at-requires-2 : tie.Need-short-at-requires-2 Inv-loop μ-loop
-short-at-requires-2 c κs = omega (arith, head (c .before .before .before .before .before .before .before .before .before))
+short-at-requires-2 c κs =
+    omega (arith, head (c .before .before .before .before .before .before .before .before .before))
 
 index-requires-3 : tie.Need-index-requires-3 Inv-loop μ-loop
 index-requires-3 c κs = search needs
@@ -188,18 +214,21 @@ index-requires-3 c κs = search needs
 some : (c : tie.Else1 Inv-loop μ-loop)
     → let i = c .before .before .before .before .before in
     let l = i .before .before .before in
-    l .before .before .before .before .before .before .before .args .set % 2 ^ (l .loop .above - i .index2 .result) ≡ 0 → ⊥
+    l .before .before .before .before .before .before .before .args .set % 2 ^ (l .loop .above - i .index2 .result) ≡ 0
+    → ⊥
 some c e =
     let i = c .before .before .before .before .before in
     let l = i .before .before .before in
-    c .if1 .left (ap (λ (x : ℕ). l .before .before .before .before .before .before .before .args .set % x) (c .before .power .ensures) ∙ e)
+    c .if1 .left (ap (λ (x : ℕ). l .before .before .before .before .before .before .before .args .set % x)
+    (c .before .power .ensures) ∙ e)
 
 loop-less : tie.Need-loop-less Inv-loop μ-loop
 loop-less c =
     let e = c .before .before .before .before in
     let i = e .before .before .before .before .before in
     let l = i .before .before .before in
-    parent-lower (bytes l) (ok l) (l .loop .inv) (table (i .before .before)) (own i) _ (c .index3 .ensures ∙ c .before .short-at2 .ensures)
+    parent-lower (bytes l) (ok l) (l .loop .inv) (table (i .before .before)) (own i) _
+    (c .index3 .ensures ∙ c .before .short-at2 .ensures)
     (some e)
 
 loop-again : tie.Need-loop-again Inv-loop μ-loop
@@ -207,7 +236,8 @@ loop-again c =
     let e = c .before .before .before .before in
     let i = e .before .before .before .before .before in
     let l = i .before .before .before in
-    laying-next (bytes l) (ok l) (l .loop .inv) (table (i .before .before)) (own i) _ _ _ _ (ends l) (e .before .before .lay-table .ensures)
+    laying-next (bytes l) (ok l) (l .loop .inv) (table (i .before .before)) (own i) _ _ _ _ (ends l)
+    (e .before .before .lay-table .ensures)
     (some e) (c .index3 .ensures ∙ c .before .short-at2 .ensures) (c .before .before .parent-rows .ensures)
 
 pub lay-spec : {M : Type 1} → statement M

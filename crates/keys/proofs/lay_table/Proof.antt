@@ -18,7 +18,8 @@ abbrev μ-loop : tie.MeasureT-loop
 μ-loop b o c low reached end set keys₀ words₀ leaders₀ j₀ keys words leaders j = j
 
 loop-holds : tie.Need-loop-holds Inv-loop μ-loop
-loop-holds c = (omega arith, length-replicate {A = ℕ} rowBound 0, length-replicate {A = ℕ} rowBound 0, table-begun _ _ _ _ _ _ _ _)
+loop-holds c =
+    (omega arith, length-replicate {A = ℕ} rowBound 0, length-replicate {A = ℕ} rowBound 0, table-begun _ _ _ _ _ _ _ _)
 
 sub-j : tie.Need-sub-j Inv-loop μ-loop
 sub-j c = search needs
@@ -89,7 +90,8 @@ loop-again-2 c =
       omega arith,
       w .long,
       g .long,
-      table-more _ _ _ _ _ _ _ _ (l .j) _ _ _ _ _ (i .loop-test .taken) (l .inv .0) (i .before .before .before .pre .0 .2) w g (c .put-keys .ensures)
+      table-more _ _ _ _ _ _ _ _ (l .j) _ _ _ _ _ (i .loop-test .taken) (l .inv .0)
+          (i .before .before .before .pre .0 .2) w g (c .put-keys .ensures)
           (l .inv .3),
     )
 

@@ -41,7 +41,8 @@ visible-requires c κs = search needs
 power-requires : tie.Need-power-requires Inv-loop μ-loop
 power-requires c κs =
     let start = c .before .before .before .before .before in
-    omega (arith, accepted-visible (now (start .args .cat)) (start .pre) (c .before .before .loop .target) (omega arith))
+    omega
+    (arith, accepted-visible (now (start .args .cat)) (start .pre) (c .before .before .loop .target) (omega arith))
 
 add-sum : tie.Need-add-sum Inv-loop μ-loop
 add-sum c =

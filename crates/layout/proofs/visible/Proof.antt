@@ -68,7 +68,8 @@ returns-2 : tie.Need-returns-2 Inv-loop μ-loop
 returns-2 c =
     omega (
       arith,
-      climb-over (now (c .before .before .before .args .cat)) (c .before .loop .left) (c .before .loop .at) (omega arith),
+      climb-over (now (c .before .before .before .args .cat)) (c .before .loop .left) (c .before .loop .at)
+          (omega arith),
     )
 
 pub visible-spec : {M : Type 1} → statement M

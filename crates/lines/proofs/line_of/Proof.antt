@@ -35,7 +35,8 @@ returns-2 c =
     let s = c .before .before .before .before .before .before .before .before in
     let a = s .args in
     let f = c .before .before .before .before .numbered-line .ensures in (
-      line-all (a .keys .now) (a .bytes .now) (a .few) (a .x) (a .n) (a .end) (a .n) (s .pre .0 .0) (le-refl _) (λ k l z. l) (s .pre .1 .1)
+      line-all (a .keys .now) (a .bytes .now) (a .few) (a .x) (a .n) (a .end) (a .n) (s .pre .0 .0) (le-refl _)
+          (λ k l z. l) (s .pre .1 .1)
           (c .add-wide .ensures (a .bytes .now) (line-none (a .keys .now) (a .bytes .now) (a .few) (a .x) (f .0))),
       f .1,
     )

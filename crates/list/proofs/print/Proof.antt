@@ -1,5 +1,5 @@
--- `print` meets its contract: the bytes handed over and those still to come are as many as the text has. The measure is the number of places
--- left. Assumes nothing.
+-- `print` meets its contract: the bytes handed over and those still to come are as many as the text has. The measure
+-- is the number of places left. Assumes nothing.
 use Prim.Native.Nat.{_+_, _-_, _<_}
 use mathlib.Core.Path.{_≡_, ap}
 use native.Mathlib.Omega.{arith}
@@ -33,8 +33,13 @@ loop-holds c =
     (search needs, search needs, paged-counts _ _ _ _ _ first (c .write .ensures), first .more)
 
 next-page-requires : tie.Need-next-page-requires Inv-loop μ-loop
-next-page-requires c κs =
-    (c .before .before .if1 .taken, (c .before .before .before .before .loop .inv .3 (c .before .before .if1 .taken), record { bytes = omega arith; words = omega arith }))
+next-page-requires c κs = (
+  c .before .before .if1 .taken,
+  (
+    c .before .before .before .before .loop .inv .3 (c .before .before .if1 .taken),
+    record { bytes = omega arith; words = omega arith },
+  ),
+)
 
 write-requires-2 : tie.Need-write-requires-2 Inv-loop μ-loop
 write-requires-2 c κs = search needs
@@ -44,7 +49,11 @@ add-sum c =
     let page = c .before .before .before .before .before .before .next-page .ensures .0 in
     let counts = paged-counts _ _ _ _ _ page (c .write2 .ensures) in
     let loop = c .before .before .before .before .before .before .before .before .before .before .before .loop in
-    omega (arith, answer-small _ (loop .inv .3 (c .before .before .before .before .before .before .before .before .before .if1 .taken) .accepted))
+    omega (
+      arith,
+      answer-small _ (loop .inv .3
+          (c .before .before .before .before .before .before .before .before .before .if1 .taken) .accepted),
+    )
 
 loop-less : tie.Need-loop-less Inv-loop μ-loop
 loop-less c =
@@ -66,7 +75,12 @@ same-length-2 c = search needs
 returns : tie.Need-returns Inv-loop μ-loop
 returns c =
     let page = c .before .before .loop .page in
-    omega (arith, ap length (rest-none (c .before .before .before .before .before .before .before .before .before .before .before .before .before .before .before .args .file .now) (page .place) (page .last) (c .if1 .left)))
+    omega (
+      arith,
+      ap length (rest-none
+          (c .before .before .before .before .before .before .before .before .before .before .before .before .before
+          .before .before .args .file .now) (page .place) (page .last) (c .if1 .left)),
+    )
 
 pub print-spec : {M : Type 1} → statement M
 print-spec =

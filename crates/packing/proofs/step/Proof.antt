@@ -57,12 +57,14 @@ returns-3 c = let a = c .before .before .before .before .before .before .before 
     let f = c .before .before .before .fine-after in
     record {
       on = λ es o l p on. step-more es o _ _ _ (f .result) (a .pre .going) z (f .ensures) l p on _
-          (c .before .before .if2 .left) (omega arith) (c .going-on .ensures .0) (c .going-on .ensures .1) (c .going-on .ensures .2) (c .going-on .ensures .3);
+          (c .before .before .if2 .left) (omega arith) (c .going-on .ensures .0) (c .going-on .ensures .1)
+          (c .going-on .ensures .2) (c .going-on .ensures .3);
       fewer = omega (
         arith,
         a .pre .next,
         steps-checking (a .args .k) (a .args .s) (a .pre .going) z refl,
-        steps-checking (a .args .k) (c .going-on .result) (c .going-on .ensures .0) (c .going-on .ensures .1) (c .going-on .ensures .2),
+        steps-checking (a .args .k) (c .going-on .result) (c .going-on .ensures .0) (c .going-on .ensures .1)
+            (c .going-on .ensures .2),
       );
     }
 
@@ -80,7 +82,8 @@ returns-4 c = let a = c .before .before .before .before .before .before .before 
     record {
       on = λ es o l p on. step-last es o _ _ _ (f .result) (a .pre .going) z (f .ensures) l p on _ _
           (c .before .before .before .before .before .if2 .left) (omega arith) (s .ensures);
-      fewer = omega (arith, a .pre .next, s .ensures .few, steps-checking (a .args .k) (a .args .s) (a .pre .going) z refl);
+      fewer =
+          omega (arith, a .pre .next, s .ensures .few, steps-checking (a .args .k) (a .args .s) (a .pre .going) z refl);
     }
 
 pub step-spec : {M : Type 1} → statement M

@@ -29,7 +29,12 @@ returns c =
     record {
       on = λ es o l e z q. wrote-more es o _ _ _ (omega arith) p l e z q _ (omega arith)
           (c .going-on .ensures .0) (c .going-on .ensures .1) (c .going-on .ensures .2);
-      fewer = omega (arith, steps-writing (c .before .before .before .before .before .before .before .args .k) (c .going-on .result) (c .going-on .ensures .0) (c .going-on .ensures .1) (c .going-on .ensures .2));
+      fewer =
+          omega (
+            arith,
+            steps-writing (c .before .before .before .before .before .before .before .args .k)
+                (c .going-on .result) (c .going-on .ensures .0) (c .going-on .ensures .1) (c .going-on .ensures .2),
+          );
     }
 
 finish-requires : tie.Need-finish-requires
@@ -44,7 +49,12 @@ returns-2 c =
     let f = c .before .before .finish in
     record {
       on = λ es o l e z q. wrote-last es o _ _ _ (omega arith) p l e z q _ _ (omega arith) (f .ensures);
-      fewer = omega (arith, steps-stopped (c .before .before .before .before .before .before .before .before .before .before .args .k) (f .result) (f .ensures .stopped));
+      fewer =
+          omega (
+            arith,
+            steps-stopped (c .before .before .before .before .before .before .before .before .before .before .args .k)
+                (f .result) (f .ensures .stopped),
+          );
     }
 
 pub write-step-spec : {M : Type 1} → statement M

@@ -43,10 +43,15 @@ same-length c = search needs
 returns : tie.Need-returns
 returns c =
     puts-head _ _ _
-    (c .before .before .before .before .before .before .before .before .before .before .before .before .before .before .before .before .before .before .before .before .before .before .before .before .before .before .before .before .before .put-word .ensures)
-    (c .before .before .before .before .before .before .before .before .before .before .before .before .before .before .before .before .before .before .before .before .before .before .before .before .before .put-number .ensures)
-    (c .before .before .before .before .before .before .before .before .before .before .before .before .before .before .before .before .before .before .before .before .put-word2 .ensures)
-    (c .before .before .before .before .before .before .before .before .before .before .before .before .before .before .before .before .put-number2 .ensures)
+    (c .before .before .before .before .before .before .before .before .before .before .before .before .before .before
+    .before .before .before .before .before .before .before .before .before .before .before .before .before .before
+    .before .put-word .ensures)
+    (c .before .before .before .before .before .before .before .before .before .before .before .before .before .before
+    .before .before .before .before .before .before .before .before .before .before .before .put-number .ensures)
+    (c .before .before .before .before .before .before .before .before .before .before .before .before .before .before
+    .before .before .before .before .before .before .put-word2 .ensures)
+    (c .before .before .before .before .before .before .before .before .before .before .before .before .before .before
+    .before .before .put-number2 .ensures)
     (c .before .before .before .before .before .before .before .before .before .before .before .put-word3 .ensures)
     (c .before .before .before .before .before .before .before .put-number3 .ensures)
     (c .before .before .put-word4 .ensures)

@@ -17,7 +17,8 @@ same-length : tie.Need-same-length
 same-length c = search needs
 
 returns : tie.Need-returns
-returns c = puts-line _ (c .before .before .before .before .before .before .before .put-entry .ensures) (c .before .before .put-word .ensures)
+returns c = puts-line _ (c .before .before .before .before .before .before .before .put-entry .ensures)
+    (c .before .before .put-word .ensures)
 
 pub put-line-spec : {M : Type 1} → statement M
 put-line-spec =

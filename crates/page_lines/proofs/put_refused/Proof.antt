@@ -24,8 +24,10 @@ same-length c = search needs
 
 returns : tie.Need-returns
 returns c =
-    puts-refused _ (c .before .before .before .before .before .before .before .before .before .before .before .put-word .ensures)
-    (c .before .before .before .before .before .before .before .put-number .ensures) (c .before .before .put-word2 .ensures)
+    puts-refused _ (c .before .before .before .before .before .before .before .before .before .before .before .put-word
+    .ensures)
+    (c .before .before .before .before .before .before .before .put-number .ensures)
+    (c .before .before .put-word2 .ensures)
 
 pub put-refused-spec : {M : Type 1} → statement M
 put-refused-spec =

@@ -52,7 +52,8 @@ same-length c = search needs
 returns : tie.Need-returns Inv-loop μ-loop
 returns c =
     let all : c .before .loop .i ≡ c .before .before .before .args .count = omega arith in
-    puts-same (ap (λ (k : ℕ). linesOf (take k (c .before .before .before .args .t3 .run))) all) (c .before .loop .inv .3)
+    puts-same (ap (λ (k : ℕ). linesOf (take k (c .before .before .before .args .t3 .run))) all)
+    (c .before .loop .inv .3)
 
 pub put-run-spec : {M : Type 1} → statement M
 put-run-spec =

@@ -1,5 +1,5 @@
--- `count_from` meets its contract: what is counted and the entries from the place on make the whole, and no call is refused. The measure is
--- the number of places left. Assumes nothing.
+-- `count_from` meets its contract: what is counted and the entries from the place on make the whole, and no call is
+-- refused. The measure is the number of places left. Assumes nothing.
 use Prim.Native.Nat.{_+_, _-_, _≤_}
 use mathlib.Core.Path.{_≡_}
 use native.Mathlib.Omega.{arith}
@@ -19,14 +19,19 @@ abbrev Inv-loop : tie.InvT-loop
 Inv-loop cat place last before work₀ from₀ sum₀ work from sum =
     (length work ≡ length work₀)
     × (from ≤ last)
-    × (sum + length (flat (drop from (cells (ordinary cat)))) ≡ before + length (flat (drop place (cells (ordinary cat)))))
+    × (sum + length (flat (drop from (cells (ordinary cat))))
+    ≡ before + length (flat (drop place (cells (ordinary cat)))))
 
 abbrev μ-loop : tie.MeasureT-loop
 μ-loop cat place last before work₀ from₀ sum₀ work from sum = last - from
 
 -- what the call in the loop gave
-given : (c : lts.After-known-told (list-filled-reads.Asked, list-filled-reads.Learnt) reads.Pre reads.Post Inv-loop μ-loop)
-    → Ran (cells (ordinary (c .before .before .before .before .before .before .before .before .before .before .before .args .cat .now)))
+given : (c : lts.After-known-told (list-filled-reads.Asked, list-filled-reads.Learnt) reads.Pre reads.Post Inv-loop
+    μ-loop)
+    → Ran
+    (cells
+    (ordinary (c .before .before .before .before .before .before .before .before .before .before .before .args .cat
+    .now)))
     (c .before .before .before .before .before .before .before .before .before .before .before .args .last)
     (c .before .before .before .before .before .before .before .before .loop .from)
     (c .before .answer .given .0 .0)
@@ -36,7 +41,8 @@ given c =
     let start = c .before .before .before .before .before .before .before .before .before .before .before in
     let loop = c .before .before .before .before .before .before .before .before .loop in
     let call = c .before .before .before .before .before .list-filled in
-    ran (start .args .cat .now) (start .args .last) (start .pre .0) (loop .from) (omega arith) (loop .work) (omega arith) _ _ _
+    ran (start .args .cat .now) (start .args .last) (start .pre .0) (loop .from) (omega arith) (loop .work)
+    (omega arith) _ _ _
     (call .result .answer) (call .result .run) _ (call .ensures) (c .before .answer .given .1)
 
 loop-holds : tie.Need-loop-holds Inv-loop μ-loop
@@ -78,7 +84,8 @@ returns c =
     let loop = c .before .before .before .before .before .before .before .loop in
     let call = c .before .before .before .before .list-filled in
     absurd
-    (filled-answers (start .args .cat .now) (start .args .last) (start .pre .0) (loop .from) (omega arith) (loop .work) (omega arith) _
+    (filled-answers (start .args .cat .now) (start .args .last) (start .pre .0) (loop .from) (omega arith) (loop .work)
+    (omega arith) _
     (call .result .answer) (call .result .run) _ (call .ensures) (c .enum-told .given .1))
 
 same-length-2 : tie.Need-same-length-2 Inv-loop μ-loop
@@ -87,7 +94,11 @@ same-length-2 c = search needs
 returns-2 : tie.Need-returns-2 Inv-loop μ-loop
 returns-2 c =
     let start = c .before .before .before .before in
-    omega (arith, counted-none (start .args .cat .now) (start .args .last) (start .pre .0) (c .before .loop .from) (omega arith))
+    omega (
+      arith,
+      counted-none (start .args .cat .now) (start .args .last) (start .pre .0) (c .before .loop .from)
+          (omega arith),
+    )
 
 pub count-from-spec : {M : Type 1} → statement M
 count-from-spec =

@@ -1,4 +1,5 @@
--- `first_page` meets its contract: the line `too long`, the line of a refusal, or the first page of the listing. Assumes nothing.
+-- `first_page` meets its contract: the line `too long`, the line of a refusal, or the first page of the listing.
+-- Assumes nothing.
 use mathlib.Core.Path.{sym, _∙_}
 use native.Mathlib.Omega.{arith}
 use borrow.Author.Needs.{needs}
@@ -32,7 +33,8 @@ same-length-2 c = search needs
 returns-2 : tie.Need-returns-2
 returns-2 c =
     let check = c .before .before .before .before .before .check-code in
-    paged-as (answer-refused _ (check .result) (omega arith) (check .ensures) (c .before .before .before .before .if2 .taken))
+    paged-as (answer-refused _ (check .result) (omega arith) (check .ensures)
+    (c .before .before .before .before .if2 .taken))
     (paged-alone _ (refusedLine (check .result)) (c .before .before .put-refused .ensures)
     (omega (arith, refused-short (check .result) (omega arith))))
 
@@ -50,7 +52,9 @@ same-length-4 c = search needs
 
 returns-3 : tie.Need-returns-3
 returns-3 c =
-    paged-as (answer-listed _ (omega arith) (sym (c .before .before .before .before .before .before .before .before .before .check-code .ensures) ∙ c .before .before .before .before .before .before .before .before .if2 .left))
+    paged-as (answer-listed _ (omega arith)
+    (sym (c .before .before .before .before .before .before .before .before .before .check-code .ensures)
+    ∙ c .before .before .before .before .before .before .before .before .if2 .left))
     (c .before .before .before .before .head-page .ensures)
 
 pub first-page-spec : {M : Type 1} → statement M

@@ -1,4 +1,5 @@
--- `head_page` meets its contract: the head line, the lines of the first run, and what is still to come behind it. Assumes nothing.
+-- `head_page` meets its contract: the head line, the lines of the first run, and what is still to come behind it.
+-- Assumes nothing.
 use native.Mathlib.Omega.{arith}
 use borrow.Author.Needs.{needs}
 use Rattle.layout.proofs.tables.Reads as tables-reads
@@ -15,8 +16,22 @@ use Rattle.pages.proofs.head_page.Reads as reads
 use Rattle.pages.proofs.head_page.Lts as lts
 
 -- what the call gave
-given : (c : lts.After-count-from-arg (list-filled-reads.Asked, list-filled-reads.Learnt, count-from-reads.Asked, count-from-reads.Learnt, tables-reads.Asked, tables-reads.Learnt, put-head-reads.Asked, put-head-reads.Learnt, put-run-reads.Asked, put-run-reads.Learnt) reads.Pre reads.Post)
-    → Ran (cells (ordinary (c .before .before .before .before .before .before .before .before .before .before .before .args .cat .now)))
+given : (c : lts.After-count-from-arg (
+  list-filled-reads.Asked,
+  list-filled-reads.Learnt,
+  count-from-reads.Asked,
+  count-from-reads.Learnt,
+  tables-reads.Asked,
+  tables-reads.Learnt,
+  put-head-reads.Asked,
+  put-head-reads.Learnt,
+  put-run-reads.Asked,
+  put-run-reads.Learnt,
+) reads.Pre reads.Post)
+    → Ran
+    (cells
+    (ordinary (c .before .before .before .before .before .before .before .before .before .before .before .args .cat
+    .now)))
     (c .before .before .before .before .before .before .before .before .before .before .before .args .last)
     0
     (c .before .before .answer .given .0 .0)
@@ -25,7 +40,8 @@ given : (c : lts.After-count-from-arg (list-filled-reads.Asked, list-filled-read
 given c =
     let start = c .before .before .before .before .before .before .before .before .before .before .before in
     let call = c .before .before .before .before .before .before .list-filled in
-    ran (start .args .cat .now) (start .args .last) (start .pre .0) 0 (omega arith) (start .args .work .now) (omega arith) _ _ _
+    ran (start .args .cat .now) (start .args .last) (start .pre .0) 0 (omega arith) (start .args .work .now)
+    (omega arith) _ _ _
     (call .result .answer) (call .result .run) _ (call .ensures) (c .before .before .answer .given .1)
 
 list-filled-requires : tie.Need-list-filled-requires
@@ -35,7 +51,10 @@ enum-known-answer : tie.Need-enum-known-answer
 enum-known-answer c = search needs
 
 count-from-requires : tie.Need-count-from-requires
-count-from-requires c κs = (c .before .before .before .before .before .before .before .before .before .before .before .pre .0, (search needs, given c .inRange))
+count-from-requires c κs = (
+  c .before .before .before .before .before .before .before .before .before .before .before .pre .0,
+  (search needs, given c .inRange),
+)
 
 tables-requires : tie.Need-tables-requires
 tables-requires c κs = search needs
@@ -44,7 +63,8 @@ put-head-requires : tie.Need-put-head-requires
 put-head-requires c κs = search needs
 
 put-run-requires : tie.Need-put-run-requires
-put-run-requires c κs = let g = given (c .before .before .before .before .before .before .before .before .before) in (g .fits, ran-within _ _ _ _ _ _ g)
+put-run-requires c κs = let g = given (c .before .before .before .before .before .before .before .before .before) in
+    (g .fits, ran-within _ _ _ _ _ _ g)
 
 enum-told : tie.Need-enum-told
 enum-told c = search needs
@@ -57,10 +77,15 @@ same-length-2 c = search needs
 
 returns : tie.Need-returns
 returns c =
-    let start = c .before .before .before .before .before .before .before .before .before .before .before .before .before .before .before .before .before .before .before .before .before .before .before in
-    paged-head (start .args .cat .now) (start .args .last) (start .pre .0) _ _ _ _ _ (given (c .before .before .before .before .before .before .before .before .before .before .before .before))
-    (c .before .before .before .before .before .before .before .tables .ensures) (c .before .before .before .before .before .before .before .before .before .before .before .count-from .ensures)
-    (c .before .before .before .before .before .before .put-head .ensures) (c .before .before .put-run .ensures) (omega arith)
+    let start =
+    c .before .before .before .before .before .before .before .before .before .before .before .before .before
+    .before .before .before .before .before .before .before .before .before .before in
+    paged-head (start .args .cat .now) (start .args .last) (start .pre .0) _ _ _ _ _
+    (given (c .before .before .before .before .before .before .before .before .before .before .before .before))
+    (c .before .before .before .before .before .before .before .tables .ensures)
+    (c .before .before .before .before .before .before .before .before .before .before .before .count-from .ensures)
+    (c .before .before .before .before .before .before .put-head .ensures) (c .before .before .put-run .ensures)
+    (omega arith)
 
 same-length-3 : tie.Need-same-length-3
 same-length-3 c = search needs
@@ -70,7 +95,8 @@ returns-2 c =
     let start = c .before .before .before .before .before .before .before .before .before in
     let call = c .before .before .before .before .list-filled in
     absurd
-    (filled-answers (start .args .cat .now) (start .args .last) (start .pre .0) 0 (omega arith) (start .args .work .now) (omega arith) _
+    (filled-answers (start .args .cat .now) (start .args .last) (start .pre .0) 0 (omega arith) (start .args .work .now)
+    (omega arith) _
     (call .result .answer) (call .result .run) _ (call .ensures) (c .enum-told .given .1))
 
 pub head-page-spec : {M : Type 1} → statement M

@@ -1,4 +1,5 @@
--- `next_page` meets its contract: the lines of the run from the place on, and what is still to come behind it. Assumes nothing.
+-- `next_page` meets its contract: the lines of the run from the place on, and what is still to come behind it.
+-- Assumes nothing.
 use mathlib.Core.Path.{refl}
 use native.Mathlib.Omega.{arith}
 use borrow.Author.Needs.{needs}
@@ -13,8 +14,12 @@ use Rattle.pages.proofs.next_page.Reads as reads
 use Rattle.pages.proofs.next_page.Lts as lts
 
 -- what the call gave
-given : (c : lts.After-put-run-arg (list-filled-reads.Asked, list-filled-reads.Learnt, put-run-reads.Asked, put-run-reads.Learnt) reads.Pre reads.Post)
-    → Ran (cells (ordinary (c .before .before .before .before .before .before .before .before .before .before .before .args .cat .now)))
+given : (c : lts.After-put-run-arg
+    (list-filled-reads.Asked, list-filled-reads.Learnt, put-run-reads.Asked, put-run-reads.Learnt) reads.Pre reads.Post)
+    → Ran
+    (cells
+    (ordinary (c .before .before .before .before .before .before .before .before .before .before .before .args .cat
+    .now)))
     (c .before .before .before .before .before .before .before .before .before .before .before .args .page .last)
     (c .before .before .before .before .before .before .before .before .before .before .before .args .page .place)
     (c .before .before .answer .given .0 .0)
@@ -23,8 +28,10 @@ given : (c : lts.After-put-run-arg (list-filled-reads.Asked, list-filled-reads.L
 given c =
     let start = c .before .before .before .before .before .before .before .before .before .before .before in
     let call = c .before .before .before .before .before .before .list-filled in
-    ran (start .args .cat .now) (start .args .page .last) (start .pre .1 .0) (start .args .page .place) (omega arith) (start .args .work .now)
-    (omega arith) _ _ _ (call .result .answer) (call .result .run) _ (call .ensures) (c .before .before .answer .given .1)
+    ran (start .args .cat .now) (start .args .page .last) (start .pre .1 .0) (start .args .page .place) (omega arith)
+    (start .args .work .now)
+    (omega arith) _ _ _ (call .result .answer) (call .result .run) _ (call .ensures)
+    (c .before .before .answer .given .1)
 
 list-filled-requires : tie.Need-list-filled-requires
 list-filled-requires c κs = search needs
@@ -46,9 +53,12 @@ same-length-2 c = search needs
 
 returns : tie.Need-returns
 returns c =
-    let start = c .before .before .before .before .before .before .before .before .before .before .before .before .before .before in
+    let start =
+    c .before .before .before .before .before .before .before .before .before .before .before .before .before
+    .before in
     let g = given (c .before .before .before) in (
-      paged-next (start .args .cat .now) (start .args .page .last) (start .pre .1 .0) _ _ _ _ g (c .before .before .put-run .ensures)
+      paged-next (start .args .cat .now) (start .args .page .last) (start .pre .1 .0) _ _ _ _ g
+          (c .before .before .put-run .ensures)
           (omega arith),
       (g .rises (omega arith), refl),
     )
@@ -61,8 +71,10 @@ returns-2 c =
     let start = c .before .before .before .before .before .before .before .before .before in
     let call = c .before .before .before .before .list-filled in
     absurd
-    (filled-answers (start .args .cat .now) (start .args .page .last) (start .pre .1 .0) (start .args .page .place) (omega arith)
-    (start .args .work .now) (omega arith) _ (call .result .answer) (call .result .run) _ (call .ensures) (c .enum-told .given .1))
+    (filled-answers (start .args .cat .now) (start .args .page .last) (start .pre .1 .0) (start .args .page .place)
+    (omega arith)
+    (start .args .work .now) (omega arith) _ (call .result .answer) (call .result .run) _ (call .ensures)
+    (c .enum-told .given .1))
 
 pub next-page-spec : {M : Type 1} → statement M
 next-page-spec =

@@ -13,8 +13,8 @@ use Rattle.partition.proofs.given.Statement.{statement}
 use Rattle.partition.proofs.given.Tie as tie
 
 -- every row leads itself
-all : (keys : List ℕ) (n end x : ℕ) (leaders : List ℕ) (followers wanted p : ℕ) → n ≤ columnBound → Led keys n end x leaders followers
-    → followers ≡ 0 → p ≡ 2 ^ (n + 1) → Given keys n end x wanted (wanted % p)
+all : (keys : List ℕ) (n end x : ℕ) (leaders : List ℕ) (followers wanted p : ℕ) → n ≤ columnBound
+    → Led keys n end x leaders followers → followers ≡ 0 → p ≡ 2 ^ (n + 1) → Given keys n end x wanted (wanted % p)
 all keys n end x leaders followers wanted p few led e is =
     subst (λ (p : ℕ). Given keys n end x wanted (wanted % p)) (sym (is ∙ ap (λ (m : ℕ). 2 ^ m) (add-one n)))
     (given-all keys n end x leaders followers few led wanted e)
@@ -47,7 +47,8 @@ given-members-requires c κs =
 returns-2 : tie.Need-returns-2
 returns-2 c =
     let s = c .before .before .before .before .before in
-    given-some _ _ _ _ _ _ (s .pre .0) (c .before .before .before .leaders-of .ensures) _ _ (c .before .before .if1 .left)
+    given-some _ _ _ _ _ _ (s .pre .0) (c .before .before .before .leaders-of .ensures) _ _
+    (c .before .before .if1 .left)
     (c .given-members .ensures)
 
 pub given-spec : {M : Type 1} → statement M

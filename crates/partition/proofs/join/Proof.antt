@@ -67,7 +67,8 @@ loop-again c =
     let f = c .before .before .before .before .loop .inv in
     record {
       within = omega arith;
-      words = filled-more (f .words) (omega arith) (omega arith) (omega (arith, length-replicate {A = ℕ} rowBound 0)) (c .word .ensures .1);
+      words = filled-more (f .words) (omega arith) (omega arith) (omega (arith, length-replicate {A = ℕ} rowBound 0))
+          (c .word .ensures .1);
       small = below-more (f .small) (c .word .ensures .0);
     }
 
@@ -77,7 +78,8 @@ group-requires c κs = search needs
 returns : tie.Need-returns Inv-loop μ-loop
 returns c =
     let f = c .before .before .before .before .loop .inv in
-    λ x s i led. led-joined _ _ x _ _ s led _ _ _ i (λ q l. (f .small q (omega arith), filled-first (f .words) q (omega arith))) (c .group .ensures)
+    λ x s i led. led-joined _ _ x _ _ s led _ _ _ i
+    (λ q l. (f .small q (omega arith), filled-first (f .words) q (omega arith))) (c .group .ensures)
 
 pub join-spec : {M : Type 1} → statement M
 join-spec =

@@ -19,8 +19,8 @@ record LedByFirst (end : ℕ) (before leaders : List ℕ) (followers q : ℕ) : 
   pub others : followers ≡ q - 1
   pub zeros : Filled 0 q (λ i. 0) before leaders
 
-done : (end : ℕ) (before leaders : List ℕ) (followers q : ℕ) → LedByFirst end before leaders followers q → length before ≡ rowBound → end ≤ q
-    → (keys : List ℕ) (x : ℕ) → Led keys 0 end x leaders followers
+done : (end : ℕ) (before leaders : List ℕ) (followers q : ℕ) → LedByFirst end before leaders followers q
+    → length before ≡ rowBound → end ≤ q → (keys : List ℕ) (x : ℕ) → Led keys 0 end x leaders followers
 done end before leaders followers q f long h keys x =
     subst (Led keys 0 end x leaders) others
     (led-begun keys end x leaders (f .zeros .same-length ∙ long) (λ i l. filled-first (f .zeros) i (omega arith)))

@@ -1,4 +1,5 @@
--- `partition::minimal_alone` meets its contract. The invariant: the rights kept are those given that need the members below k.
+-- `partition::minimal_alone` meets its contract. The invariant: the rights kept are those given that need the members
+-- below k.
 use Prim.Native.Nat.{ℕ, suc, _+_, _-_, _^_, _≤_, _<_}
 use mathlib.Core.Path.{_≡_, sym, ap, subst, _∙_}
 use mathlib.Core.Logic.{_↔_}
@@ -36,10 +37,14 @@ more keys n end x start kept k r f l g = record {
   );
 }
 
-module _ (keys : List ℕ) (n end own x : ℕ) (start wanted kept k : ℕ) (few : n ≤ columnBound) (small : x < 2 ^ n) (asked : own < 2 ^ suc n)
-    (want : wanted ≡ lackingOf own x) (given : Given keys n end x wanted start) (f : Kept keys n end x start kept k) where
-  of : (r : ℕ) → ((a : ℕ) → (bit r a ≡ 1) ↔ ((bit start a ≡ 1) × Needs keys n end x n a)) → r ≡ minimalMask (keyView keys n end) own x
-  of r = needed-rights keys n end x own few small asked start r (subst (λ (w : ℕ). Given keys n end x w start) want given)
+module _ (keys : List ℕ) (n end own x : ℕ) (start wanted kept k : ℕ) (few : n ≤ columnBound) (small : x < 2 ^ n)
+    (asked : own < 2 ^ suc n)
+    (want : wanted ≡ lackingOf own x) (given : Given keys n end x wanted start)
+    (f : Kept keys n end x start kept k) where
+  of : (r : ℕ) → ((a : ℕ) → (bit r a ≡ 1) ↔ ((bit start a ≡ 1) × Needs keys n end x n a))
+      → r ≡ minimalMask (keyView keys n end) own x
+  of r =
+      needed-rights keys n end x own few small asked start r (subst (λ (w : ℕ). Given keys n end x w start) want given)
 
   -- no right is left
   ended : kept ≡ 0 → 0 ≡ minimalMask (keyView keys n end) own x
@@ -50,7 +55,9 @@ module _ (keys : List ℕ) (n end own x : ℕ) (start wanted kept k : ℕ) (few 
 
   -- every member is passed
   done : n ≤ k → kept ≡ minimalMask (keyView keys n end) own x
-  done h = of kept (subst (λ (m : ℕ). (a : ℕ) → (bit kept a ≡ 1) ↔ ((bit start a ≡ 1) × Needs keys n end x m a)) same (f .is))
+  done h =
+      of kept (subst (λ (m : ℕ). (a : ℕ) → (bit kept a ≡ 1) ↔ ((bit start a ≡ 1) × Needs keys n end x m a)) same
+      (f .is))
     where
       same : k ≡ n
       same = omega (arith, f .within)

@@ -17,7 +17,8 @@ use Rattle.partition.proofs.needing.Statement.{statement}
 use Rattle.partition.proofs.needing.Tie as tie
 
 -- x without member k gives the rights g
-module _ (keys : List ℕ) (n end x k rights p g r : ℕ) (i : In k x) (is : p ≡ 2 ^ k) (given : Given keys n end (x - p) rights g)
+module _ (keys : List ℕ) (n end x k rights p g r : ℕ) (i : In k x) (is : p ≡ 2 ^ k)
+    (given : Given keys n end (x - p) rights g)
     (rest : r ≡ lackingOf rights g) where
   less : Given keys n end (withoutOf x k) rights g
   less = subst (λ (y : ℕ). Given keys n end y rights g) (ap (λ (p : ℕ). x - p) is ∙ sym (without-some x k i)) given
@@ -53,7 +54,8 @@ lacking-requires c κs = search needs
 returns-2 : tie.Need-returns-2
 returns-2 c =
     let s = c .before .before .before .before in
-    needed (now (s .args .keys)) _ _ _ _ _ _ _ _ (bit-one _ _ (c .before .before .before .if1 .left)) (c .before .before .power .ensures)
+    needed (now (s .args .keys)) _ _ _ _ _ _ _ _ (bit-one _ _ (c .before .before .before .if1 .left))
+    (c .before .before .power .ensures)
     (c .before .given .ensures) (c .lacking .ensures)
 
 pub needing-spec : {M : Type 1} → statement M

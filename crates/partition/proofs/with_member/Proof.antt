@@ -20,7 +20,8 @@ gives-requires c κs = search needs
 returns-2 : tie.Need-returns-2
 returns-2 c = λ f.
     below-kept _ _ _ _ _ _ f
-    (λ g. false-is {b = c .before .gives .result} (not-true _ (c .if2 .taken)) (true-is (c .before .gives .ensures .1 (g .1))))
+    (λ g. false-is {b = c .before .gives .result} (not-true _ (c .if2 .taken))
+    (true-is (c .before .gives .ensures .1 (g .1))))
 
 power-requires : tie.Need-power-requires
 power-requires c κs = search needs

@@ -34,7 +34,11 @@ minimal-alone-requires c κs =
     let e = c .before .before .before .before .before .before .visible .ensures in (
       omega (arith, e, accepted-visible cat (s .pre .0) (s .args .target) (s .pre .1 .0)),
       (
-        omega (arith, c .before .before .before .rows .ensures, accepted-rows cat (s .pre .0) (s .args .target) (s .pre .1 .0)),
+        omega (
+          arith,
+          c .before .before .before .rows .ensures,
+          accepted-rows cat (s .pre .0) (s .args .target) (s .pre .1 .0),
+        ),
         (
           subst (λ (n : ℕ). s .args .left < 2 ^ n) (sym e) (s .pre .1 .1 .0),
           own-fits _ _ e (c .before .before .own-rights .ensures),
@@ -51,7 +55,8 @@ returns c =
     let s = t .before .before .before .before .before .before .before in (
       λ one.
           alone-rights (ordinary (now (s .args .cat))) (s .args .target) (s .args .left) (t .own-rights .ensures)
-          (keyed-rows _ _ (t .before .rows .ensures) (t .before .before .lay-all .ensures)) (c .before .minimal-alone .ensures)
+          (keyed-rows _ _ (t .before .rows .ensures) (t .before .before .lay-all .ensures))
+          (c .before .minimal-alone .ensures)
           (c .filter .ensures),
       λ more. absurd (more (c .before .before .before .if1 .taken)),
     )

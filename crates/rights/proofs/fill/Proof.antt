@@ -14,8 +14,12 @@ cast-if1 c = search needs
 sow-requires : tie.Need-sow-requires
 sow-requires c κs =
     let s = c .before .before .before .before in
-    let p = s .pre in
-    (narrow-wide _ _ (p .2) (omega (arith, c .before .before .power .ensures)), p .0, p .1, narrow-fits _ _ (p .2) (p .0))
+    let p = s .pre in (
+      narrow-wide _ _ (p .2) (omega (arith, c .before .before .power .ensures)),
+      p .0,
+      p .1,
+      narrow-fits _ _ (p .2) (p .0),
+    )
 
 same-length : tie.Need-same-length
 same-length c = search needs
@@ -41,7 +45,8 @@ returns-2 c =
     let s = c .before .before .before .before .before .before .before in
     λ v keyed eq own.
     holds-table v (s .args .n) _ (keyed .members)
-    (omega (arith, c .before .before .before .before .before .power .ensures)) (c .before .before .build .ensures v keyed)
+    (omega (arith, c .before .before .before .before .before .power .ensures))
+    (c .before .before .build .ensures v keyed)
 
 pub fill-spec : {M : Type 1} → statement M
 fill-spec =

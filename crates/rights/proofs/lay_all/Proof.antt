@@ -22,7 +22,8 @@ lay-requires c κs = search needs
 returns : tie.Need-returns
 returns c =
     let s = c .before .before .before .before in
-    laid-all (now (s .args .cat)) (s .args .target) (s .args .n) (c .before .before .power .result) _ (s .pre .0) (s .pre .1 .0) (s .pre .1 .1 .0)
+    laid-all (now (s .args .cat)) (s .args .target) (s .args .n) (c .before .before .power .result) _ (s .pre .0)
+    (s .pre .1 .0) (s .pre .1 .1 .0)
     (c .before .before .power .ensures) (c .lay .ensures .1)
 
 pub lay-all-spec : {M : Type 1} → statement M

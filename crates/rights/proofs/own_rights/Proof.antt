@@ -48,12 +48,14 @@ power-requires-2 c κs =
 
 sub-result : tie.Need-sub-result
 sub-result c =
-    own-le _ _ _ _ _ _ (ap (λ (n : ℕ). n + 1) (c .before .before .before .visible .ensures)) (c .before .before .power .ensures)
+    own-le _ _ _ _ _ _ (ap (λ (n : ℕ). n + 1) (c .before .before .before .visible .ensures))
+    (c .before .before .power .ensures)
     (c .before .inherited .ensures) (c .power2 .ensures)
 
 returns : tie.Need-returns
 returns c =
-    is-own _ _ _ _ _ _ (ap (λ (n : ℕ). n + 1) (c .before .before .before .visible .ensures)) (c .before .before .power .ensures)
+    is-own _ _ _ _ _ _ (ap (λ (n : ℕ). n + 1) (c .before .before .before .visible .ensures))
+    (c .before .before .power .ensures)
     (c .before .inherited .ensures) (c .power2 .ensures)
 
 pub own-rights-spec : {M : Type 1} → statement M

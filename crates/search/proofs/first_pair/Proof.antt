@@ -15,13 +15,16 @@ mark-leaders-requires c κs =
 
 first-stray-requires : tie.Need-first-stray-requires
 first-stray-requires c κs =
-    let s = c .before .before .before .before .before .before .before .pre in
-    ((led-inside (s .1) (c .before .before .before .before .before .leaders-of .ensures), s .2), c .before .before .mark-leaders .ensures .1)
+    let s = c .before .before .before .before .before .before .before .pre in (
+      (led-inside (s .1) (c .before .before .before .before .before .leaders-of .ensures), s .2),
+      c .before .before .mark-leaders .ensures .1,
+    )
 
 returns : tie.Need-returns
 returns c =
     let a = c .before .before .before .before .before .before .before .before .args in
-    stray-breaking (now (a .keys)) _ (a .n) (a .end) (a .x) (a .right) (c .before .before .before .before .before .before .leaders-of .ensures .leads)
+    stray-breaking (now (a .keys)) _ (a .n) (a .end) (a .x) (a .right)
+    (c .before .before .before .before .before .before .leaders-of .ensures .leads)
     (c .first-stray .result) (c .first-stray .ensures)
 
 pub first-pair-spec : {M : Type 1} → statement M

@@ -1,4 +1,5 @@
--- `search::first_stray` meets its contract. The invariants: no row before the present one strays from a lower leader. The measures are what is left of the rows.
+-- `search::first_stray` meets its contract. The invariants: no row before the present one strays from a lower leader.
+-- The measures are what is left of the rows.
 use Prim.Native.Nat.{_-_}
 use native.Mathlib.Omega.{arith}
 use borrow.Author.Needs.{needs}
@@ -32,7 +33,8 @@ loop-holds : tie.Need-loop-holds Inv-loop μ-loop Inv-rows μ-rows
 loop-holds c =
     let a = c .before .before .before .args in
     let s = c .before .before .before .pre in
-    before-begun (now (a .keys)) (now (a .leaders)) (a .right) (a .end) (s .0 .0) (now (a .marks)) (c .before .before .rows .p) (c .row-after .result)
+    before-begun (now (a .keys)) (now (a .leaders)) (a .right) (a .end) (s .0 .0) (now (a .marks))
+    (c .before .before .rows .p) (c .row-after .result)
     (s .1) (c .row-after .ensures) (omega arith) (c .before .before .rows .inv)
 
 follows-requires : tie.Need-follows-requires Inv-loop μ-loop Inv-rows μ-rows
@@ -58,8 +60,10 @@ loop-again : tie.Need-loop-again Inv-loop μ-loop Inv-rows μ-rows
 loop-again c =
     let a = c .before .before .before .before .before .before .before .args in
     let l = c .before .before .before .loop in
-    before-more (now (a .keys)) (now (a .leaders)) (a .right) (a .end) (c .before .before .before .before .before .before .before .pre .0 .0)
-    (c .before .before .before .before .before .before .rows .p) (l .q) (c .before .follows .ensures) (c .if2 .left) (l .inv)
+    before-more (now (a .keys)) (now (a .leaders)) (a .right) (a .end)
+    (c .before .before .before .before .before .before .before .pre .0 .0)
+    (c .before .before .before .before .before .before .rows .p) (l .q) (c .before .follows .ensures) (c .if2 .left)
+    (l .inv)
 
 add-p : tie.Need-add-p Inv-loop μ-loop Inv-rows μ-rows
 add-p c = search needs
@@ -71,13 +75,15 @@ rows-again : tie.Need-rows-again Inv-loop μ-loop Inv-rows μ-rows
 rows-again c =
     let a = c .before .before .before .before .before .args in
     let l = c .before .loop in
-    before-row (now (a .keys)) (now (a .leaders)) (a .right) (a .end) (c .before .before .before .before .before .pre .0 .0)
+    before-row (now (a .keys)) (now (a .leaders)) (a .right) (a .end)
+    (c .before .before .before .before .before .pre .0 .0)
     (c .before .before .before .before .rows .p) (l .q) (omega arith) (l .inv)
 
 returns : tie.Need-returns Inv-loop μ-loop Inv-rows μ-rows
 returns c =
     let a = c .before .before .args in
-    before-all (now (a .keys)) (now (a .leaders)) (a .right) (a .end) (c .before .before .pre .0 .0) (c .before .rows .p) (omega arith)
+    before-all (now (a .keys)) (now (a .leaders)) (a .right) (a .end) (c .before .before .pre .0 .0)
+    (c .before .rows .p) (omega arith)
     (c .before .rows .inv)
 
 returns-2 : tie.Need-returns-2 Inv-loop μ-loop Inv-rows μ-rows
@@ -85,7 +91,8 @@ returns-2 c =
     let a = c .before .before .before .before .before .before .before .args in
     let l = c .before .before .before .loop in
     let f =
-    follows-is (now (a .keys)) (now (a .leaders)) (a .right) (l .q) (c .before .before .before .before .before .before .rows .p)
+    follows-is (now (a .keys)) (now (a .leaders)) (a .right) (l .q)
+    (c .before .before .before .before .before .before .rows .p)
     (c .before .follows .ensures) (c .if2 .taken) in
     (omega arith, f .0, f .1, l .inv)
 

@@ -11,7 +11,8 @@ strays-requires c κs = search needs
 returns : tie.Need-returns
 returns c =
     let a = c .before .before .args in
-    marked-kept (now (a .keys)) (now (a .leaders)) (a .right) (a .q) (now (a .marks)) (c .before .before .pre .1) (c .before .strays .ensures) (c .if1 .taken)
+    marked-kept (now (a .keys)) (now (a .leaders)) (a .right) (a .q) (now (a .marks)) (c .before .before .pre .1)
+    (c .before .strays .ensures) (c .if1 .taken)
 
 mul-p : tie.Need-mul-p
 mul-p c = search needs
@@ -28,7 +29,8 @@ element-write-marks c = search needs
 returns-2 : tie.Need-returns-2
 returns-2 c =
     let a = c .before .before .before .args in
-    marked-one (now (a .keys)) (now (a .leaders)) (a .right) (a .q) (now (a .marks)) (c .before .before .before .pre .1) (c .before .before .before .pre .0 .1)
+    marked-one (now (a .keys)) (now (a .leaders)) (a .right) (a .q) (now (a .marks)) (c .before .before .before .pre .1)
+    (c .before .before .before .pre .0 .1)
 
 pub mark-leader-spec : {M : Type 1} → statement M
 mark-leader-spec =

@@ -8,7 +8,8 @@ use Rattle.model.proofs.Listing.{cells-length}
 use Rattle.grounds.proofs.Sound.{check-code-le}
 use Rattle.walk.specs.Walks.{Passes}
 use Rattle.passing.specs.declared.Reached.{Reached}
-use Rattle.steps.proofs.Begins.{refusal-number, begin-refused, begin-few, begin-past, begin-spent, begin-end, begin-short, begin-walks}
+use Rattle.steps.proofs.Begins.{refusal-number, begin-refused, begin-few, begin-past, begin-spent, begin-end}
+use Rattle.steps.proofs.Begins.{begin-short, begin-walks}
 use Rattle.steps.proofs.begin.Statement.{statement}
 use Rattle.steps.proofs.begin.Tie as tie
 
@@ -21,7 +22,11 @@ refusal-requires c κs = refusal-number _ (c .before .check-code .ensures) (c .i
 returns : tie.Need-returns
 returns c =
     begin-refused _ _ _ _ _ _ _ _ (c .before .before .check-code .ensures) (c .before .if1 .taken) (c .refusal .ensures)
-    (omega (arith, c .before .before .check-code .ensures, check-code-le (now (c .before .before .before .before .before .args .cat))))
+    (omega (
+      arith,
+      c .before .before .check-code .ensures,
+      check-code-le (now (c .before .before .before .before .before .args .cat)),
+    ))
 
 returns-2 : tie.Need-returns-2
 returns-2 c = begin-few _ _ _ _ _ _ (search needs) (search needs)
@@ -43,7 +48,8 @@ same-length c = search needs
 returns-4 : tie.Need-returns-4
 returns-4 c =
     let s = c .before .before .before .before .before .before .before .before .before .before .before .before in
-    begin-spent _ _ _ _ _ _ (search needs) (search needs) (omega (arith, cells-length (now (s .args .cat)))) _ (search needs) (search needs)
+    begin-spent _ _ _ _ _ _ (search needs) (search needs) (omega (arith, cells-length (now (s .args .cat)))) _
+    (search needs) (search needs)
 
 zero-words-requires-2 : tie.Need-zero-words-requires-2
 zero-words-requires-2 c κs = search needs
@@ -63,7 +69,8 @@ first-requires c κs = search needs
 pass-first-requires : tie.Need-pass-first-requires
 pass-first-requires c κs =
     let f = c .before in
-    let none = sym (f .before .before .before .before .before .before .before .check-code .ensures) ∙ f .before .before .before .before .before .before .if1 .left in
+    let none = sym (f .before .before .before .before .before .before .before .check-code .ensures)
+    ∙ f .before .before .before .before .before .before .if1 .left in
     let s = c .before .before .before .before .before .before .before .before .before .before .before in
     (none, c .before .first .ensures (now (s .args .work)) (search needs) .fresh)
 
@@ -74,10 +81,12 @@ step-requires : tie.Need-step-requires
 step-requires c κs =
     let q = c .before .before .before .before .before .before in
     let f = q .before .before in
-    let none = sym (f .before .before .before .before .before .before .before .check-code .ensures) ∙ f .before .before .before .before .before .before .if1 .left in
+    let none = sym (f .before .before .before .before .before .before .before .check-code .ensures)
+    ∙ f .before .before .before .before .before .before .if1 .left in
     let s = f .before .before .before .before .before .before .before .before .before .before in
     let h =
-    subst (λ (r : Reached). Passes (ordinary (now (s .args .cat))) (f .first .result) r (q .pass-first .last .1 .1 .0)) (c .before .before .v .given .1)
+    subst (λ (r : Reached). Passes (ordinary (now (s .args .cat))) (f .first .result) r (q .pass-first .last .1 .1 .0))
+    (c .before .before .v .given .1)
     (q .pass-first .ensures) in
     (none, h .0)
 
@@ -95,14 +104,18 @@ returns-6 c =
     let p = c .before .before .before in
     let q = p .before .before .before .before .before .before in
     let f = q .before .before in
-    let none = sym (f .before .before .before .before .before .before .before .check-code .ensures) ∙ f .before .before .before .before .before .before .if1 .left in
+    let none = sym (f .before .before .before .before .before .before .before .check-code .ensures)
+    ∙ f .before .before .before .before .before .before .if1 .left in
     let s = f .before .before .before .before .before .before .before .before .before .before in
     let g = f .first .ensures (now (s .args .work)) (search needs) in
     let h =
-    subst (λ (r : Reached). Passes (ordinary (now (s .args .cat))) (f .first .result) r (q .pass-first .last .1 .1 .0)) (p .before .before .v .given .1)
+    subst (λ (r : Reached). Passes (ordinary (now (s .args .cat))) (f .first .result) r (q .pass-first .last .1 .1 .0))
+    (p .before .before .v .given .1)
     (q .pass-first .ensures) in
-    begin-walks _ (ordinary (now (s .args .cat))) (s .args .place) (s .args .budget) (s .args .room) (now (s .args .work)) none
-    (g .fresh .sound .enough) (f .first .result) (now (s .args .work)) g (p .before .before .v .given .0 .0) (q .pass-first .last .1 .1 .0) h (search needs)
+    begin-walks _ (ordinary (now (s .args .cat))) (s .args .place) (s .args .budget) (s .args .room)
+    (now (s .args .work)) none
+    (g .fresh .sound .enough) (f .first .result) (now (s .args .work)) g (p .before .before .v .given .0 .0)
+    (q .pass-first .last .1 .1 .0) h (search needs)
     (c .before .before .step .result) (c .before .before .step .last .1 .1 .0) (c .before .before .step .ensures)
 
 same-length-4 : tie.Need-same-length-4
@@ -113,14 +126,18 @@ returns-7 c =
     let p = c .before .before .before .before in
     let q = p .before .before .before .before in
     let f = q .before .before in
-    let none = sym (f .before .before .before .before .before .before .before .check-code .ensures) ∙ f .before .before .before .before .before .before .if1 .left in
+    let none = sym (f .before .before .before .before .before .before .before .check-code .ensures)
+    ∙ f .before .before .before .before .before .before .if1 .left in
     let s = f .before .before .before .before .before .before .before .before .before .before in
     let g = f .first .ensures (now (s .args .work)) (search needs) in
     let h =
-    subst (λ (r : Reached). Passes (ordinary (now (s .args .cat))) (f .first .result) r (q .pass-first .last .1 .1 .0)) (p .enum-told .given .1)
+    subst (λ (r : Reached). Passes (ordinary (now (s .args .cat))) (f .first .result) r (q .pass-first .last .1 .1 .0))
+    (p .enum-told .given .1)
     (q .pass-first .ensures) in
-    begin-short _ (ordinary (now (s .args .cat))) (s .args .place) (s .args .budget) (s .args .room) (now (s .args .work)) none
-    (g .fresh .sound .enough) (f .first .result) (now (s .args .work)) g (q .pass-first .last .1 .1 .0) h (search needs) _ (c .before .before .zero-words3 .ensures)
+    begin-short _ (ordinary (now (s .args .cat))) (s .args .place) (s .args .budget) (s .args .room)
+    (now (s .args .work)) none
+    (g .fresh .sound .enough) (f .first .result) (now (s .args .work)) g (q .pass-first .last .1 .1 .0) h
+    (search needs) _ (c .before .before .zero-words3 .ensures)
 
 pub begin-spec : {M : Type 1} → statement M
 begin-spec =

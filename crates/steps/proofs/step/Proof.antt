@@ -1,5 +1,5 @@
--- `steps::step` meets its contract. The invariant: the walk is good, and has the same before it as the one that came. The measure is its
--- budget.
+-- `steps::step` meets its contract. The invariant: the walk is good, and has the same before it as the one that came.
+-- The measure is its budget.
 use mathlib.Core.Path.{subst}
 use native.Mathlib.Omega.{arith}
 use denote.Ref.{now}
@@ -34,7 +34,8 @@ loop-less c =
     let s = c .before .before .before .before .before .before .before .before .before .before .before .before in
     let l = c .before .before .before .before .before .before .before .before .before .loop in
     let o = c .before .before .before .before .before .onward in
-    let g = subst (λ (r : Reached). Goes (ordinary (now (s .args .cat))) (l .v) r (o .last .1 .1 .0)) (c .before .next .given .1) (o .ensures) in
+    let g = subst (λ (r : Reached). Goes (ordinary (now (s .args .cat))) (l .v) r (o .last .1 .1 .0))
+    (c .before .next .given .1) (o .ensures) in
     g .2
 
 loop-again : tie.Need-loop-again Inv-loop μ-loop
@@ -42,7 +43,8 @@ loop-again c =
     let s = c .before .before .before .before .before .before .before .before .before .before .before .before in
     let l = c .before .before .before .before .before .before .before .before .before .loop in
     let o = c .before .before .before .before .before .onward in
-    let g = subst (λ (r : Reached). Goes (ordinary (now (s .args .cat))) (l .v) r (o .last .1 .1 .0)) (c .before .next .given .1) (o .ensures) in
+    let g = subst (λ (r : Reached). Goes (ordinary (now (s .args .cat))) (l .v) r (o .last .1 .1 .0))
+    (c .before .next .given .1) (o .ensures) in
     (l .inv .0, stepping-on _ _ _ _ _ (l .inv .1) (c .before .next .given .0 .0) (o .last .1 .1 .0) g (search needs))
 
 enum-told : tie.Need-enum-told Inv-loop μ-loop
@@ -52,7 +54,12 @@ zero-words-requires : tie.Need-zero-words-requires Inv-loop μ-loop
 zero-words-requires c κs = search needs
 
 same-length : tie.Need-same-length Inv-loop μ-loop
-same-length c = omega (arith, c .before .before .before .before .before .before .before .before .before .before .before .before .loop .inv .1 .length)
+same-length c =
+    omega (
+      arith,
+      c .before .before .before .before .before .before .before .before .before .before .before .before .loop .inv
+          .1 .length,
+    )
 
 returns : tie.Need-returns Inv-loop μ-loop
 returns c =
@@ -60,7 +67,8 @@ returns c =
     let l = t .before .before .before .before .before .before .before .before .loop in
     let s = t .before .before .before .before .before .before .before .before .before .before .before in
     let o = t .before .before .before .before .onward in
-    let g = subst (λ (r : Reached). Goes (ordinary (now (s .args .cat))) (l .v) r (o .last .1 .1 .0)) (t .enum-told .given .1) (o .ensures) in
+    let g = subst (λ (r : Reached). Goes (ordinary (now (s .args .cat))) (l .v) r (o .last .1 .1 .0))
+    (t .enum-told .given .1) (o .ensures) in
     step-done _ _ _ _ _ (l .inv .1) (o .last .1 .1 .0) g _ (c .before .before .zero-words .ensures) (search needs)
 
 put-requires : tie.Need-put-requires Inv-loop μ-loop

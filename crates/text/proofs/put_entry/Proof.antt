@@ -30,8 +30,10 @@ same-length c = search needs
 
 returns : tie.Need-returns
 returns c =
-    puts-entry _ (c .before .before .before .before .before .before .before .before .before .before .before .before .before .before .before .before .before .before .before .put-number .ensures)
-    (c .before .before .before .before .before .before .before .before .before .before .before .before .before .before .before .put-byte .ensures)
+    puts-entry _ (c .before .before .before .before .before .before .before .before .before .before .before .before
+    .before .before .before .before .before .before .before .put-number .ensures)
+    (c .before .before .before .before .before .before .before .before .before .before .before .before .before .before
+    .before .put-byte .ensures)
     (c .before .before .before .before .before .before .before .before .before .before .put-number2 .ensures)
     (c .before .before .before .before .before .before .put-byte2 .ensures) (c .before .before .put-right .ensures)
 

@@ -10,7 +10,8 @@ use Rattle.text.proofs.put_word.Statement.{statement}
 use Rattle.text.proofs.put_word.Tie as tie
 
 abbrev Inv-loop : tie.InvT-loop
-Inv-loop out₀ at word next₀ i₀ out next i = (length out ≡ length out₀) × (i ≤ length word) × Puts (take i word) at out₀ out next
+Inv-loop out₀ at word next₀ i₀ out next i =
+    (length out ≡ length out₀) × (i ≤ length word) × Puts (take i word) at out₀ out next
 
 abbrev μ-loop : tie.MeasureT-loop
 μ-loop out₀ at word next₀ i₀ out next i = length word - i
@@ -44,7 +45,8 @@ same-length : tie.Need-same-length Inv-loop μ-loop
 same-length c = search needs
 
 returns : tie.Need-returns Inv-loop μ-loop
-returns c = puts-whole (c .before .before .before .before .args .word .now) (c .before .loop .i) (omega arith) (c .before .loop .inv .2)
+returns c = puts-whole (c .before .before .before .before .args .word .now) (c .before .loop .i) (omega arith)
+    (c .before .loop .inv .2)
 
 pub put-word-spec : {M : Type 1} → statement M
 put-word-spec =

@@ -15,7 +15,8 @@ count-in-requires : tie.Need-count-in-requires
 count-in-requires c κs = search needs
 
 returns-2 : tie.Need-returns-2
-returns-2 c = opened-end _ _ _ (c .before .before .before .is-open .ensures) (c .before .before .if1 .left) _ (omega arith)
+returns-2 c =
+    opened-end _ _ _ (c .before .before .before .is-open .ensures) (c .before .before .if1 .left) _ (omega arith)
 
 first-in-requires : tie.Need-first-in-requires
 first-in-requires c κs = search needs
@@ -30,7 +31,9 @@ entry-from-requires : tie.Need-entry-from-requires
 entry-from-requires c κs = search needs
 
 returns-3 : tie.Need-returns-3
-returns-3 c = opened-next _ _ _ (c .before .before .before .before .before .is-open .ensures) (c .before .before .before .before .if1 .left) _ (omega arith) (c .before .first-in .ensures) (c .entry-from .ensures)
+returns-3 c = opened-next _ _ _ (c .before .before .before .before .before .is-open .ensures)
+    (c .before .before .before .before .if1 .left) _ (omega arith) (c .before .first-in .ensures)
+    (c .entry-from .ensures)
 
 pub entry-at-spec : {M : Type 1} → statement M
 entry-at-spec =

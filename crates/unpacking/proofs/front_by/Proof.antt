@@ -24,7 +24,8 @@ slice-aggregate-result-2 : tie.Need-slice-aggregate-result-2
 slice-aggregate-result-2 c = sym (length-take-le _ _ (omega arith))
 
 returns-2 : tie.Need-returns-2
-returns-2 c = all-front _ _ _ (c .before .before .before .is-open .ensures) (c .before .before .if1 .left) (c .before .first-in .ensures)
+returns-2 c = all-front _ _ _ (c .before .before .before .is-open .ensures) (c .before .before .if1 .left)
+    (c .before .first-in .ensures)
 
 pub front-by-spec : {M : Type 1} → statement M
 front-by-spec =

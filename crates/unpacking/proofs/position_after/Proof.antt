@@ -18,10 +18,12 @@ add-result : tie.Need-add-result
 add-result c = search needs
 
 returns-2 : tie.Need-returns-2
-returns-2 c = opened-moves _ _ _ (c .before .before .before .is-open .ensures) (c .before .before .if1 .left) _ (omega arith)
+returns-2 c =
+    opened-moves _ _ _ (c .before .before .before .is-open .ensures) (c .before .before .if1 .left) _ (omega arith)
 
 returns-3 : tie.Need-returns-3
-returns-3 c = opened-stays _ _ _ (c .before .before .before .is-open .ensures) (c .before .before .if1 .left) _ (omega arith)
+returns-3 c =
+    opened-stays _ _ _ (c .before .before .before .is-open .ensures) (c .before .before .if1 .left) _ (omega arith)
 
 pub position-after-spec : {M : Type 1} → statement M
 position-after-spec = tie.close (tie.spec is-open-requires returns count-in-requires add-result returns-2 returns-3)

@@ -85,7 +85,8 @@ power-requires c κs = search needs
 returns-2 : tie.Need-returns-2
 returns-2 c =
     let d = c .before .before in
-    sym (next-absent _ _ (d .before .if1 .left) (omega arith)) ∙ ap (nextOf (d .before .before .args .n)) (d .members .ensures)
+    sym (next-absent _ _ (d .before .if1 .left) (omega arith))
+    ∙ ap (nextOf (d .before .before .args .n)) (d .members .ensures)
 
 power-requires-2 : tie.Need-power-requires-2
 power-requires-2 c κs = lowest-lt 32 _ (c .if3 .taken) (word (c .before))
@@ -128,7 +129,8 @@ returns-4 : tie.Need-returns-4
 returns-4 c =
     let d = c .before .before .before in
     ap (λ (p : ℕ). Set (setOf (p - 1))) (c .power4 .ensures ∙ ap (λ (i : ℕ). 2 ^ i) (add-one (sizeOf (bits d))))
-    ∙ told d (next-of-next-size (width d) (bits d) (within d) (below d) (last (c .before .before)) (c .before .if5 .taken))
+    ∙ told d (next-of-next-size (width d) (bits d) (within d) (below d) (last (c .before .before))
+    (c .before .if5 .taken))
 
 returns-5 : tie.Need-returns-5
 returns-5 c =

@@ -36,12 +36,14 @@ returns c =
 returns-2 : tie.Need-returns-2
 returns-2 c =
     let d = c .before .before in
-    larger _ _ (c .before .if1 .left) (c .if2 .taken) ∙ ap₂ precedesOf (d .before .members .ensures) (d .members2 .ensures)
+    larger _ _ (c .before .if1 .left) (c .if2 .taken)
+    ∙ ap₂ precedesOf (d .before .members .ensures) (d .members2 .ensures)
 
 returns-3 : tie.Need-returns-3
 returns-3 c =
     let d = c .before .before in
-    as-large _ _ (c .before .if1 .left) (c .if2 .left) ∙ ap₂ precedesOf (d .before .members .ensures) (d .members2 .ensures)
+    as-large _ _ (c .before .if1 .left) (c .if2 .left)
+    ∙ ap₂ precedesOf (d .before .members .ensures) (d .members2 .ensures)
 
 pub precedes-spec : {M : Type 1} → statement M
 precedes-spec =

@@ -23,7 +23,8 @@ first-pair-requires c κs =
 
 returns : tie.Need-returns
 returns c =
-    posed-breaking (c .before .before .before .before .before .before .before .pre) (c .first-pair .result) (c .before .before .visible .ensures) (c .before .rows .ensures)
+    posed-breaking (c .before .before .before .before .before .before .before .pre) (c .first-pair .result)
+    (c .before .before .visible .ensures) (c .before .rows .ensures)
     (c .before .before .before .before .lay-question .ensures) (c .first-pair .ensures)
 
 pub breaking-pair-spec : {M : Type 1} → statement M

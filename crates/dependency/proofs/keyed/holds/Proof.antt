@@ -27,8 +27,10 @@ given-requires c κs = search needs
 
 returns : tie.Need-returns
 returns c =
-    posed-holds (c .before .before .before .before .before .before .before .before .pre) (c .given .result) (c .before .before .before .before .visible .ensures) (c .before .before .rows .ensures)
-    (c .before .right-bit .ensures) (c .before .before .before .before .before .lay-question .ensures) (c .given .ensures)
+    posed-holds (c .before .before .before .before .before .before .before .before .pre) (c .given .result)
+    (c .before .before .before .before .visible .ensures) (c .before .before .rows .ensures)
+    (c .before .right-bit .ensures) (c .before .before .before .before .before .lay-question .ensures)
+    (c .given .ensures)
 
 pub holds-spec : {M : Type 1} → statement M
 holds-spec =

@@ -15,7 +15,8 @@ lay-requires c κs = search needs
 
 returns : tie.Need-returns
 returns c =
-    posed-keyed (c .before .before .before .before .before .pre .0) (c .before .before .members-of .ensures) (c .lay .ensures .1)
+    posed-keyed (c .before .before .before .before .before .pre .0) (c .before .before .members-of .ensures)
+    (c .lay .ensures .1)
 
 pub lay-question-spec : {M : Type 1} → statement M
 lay-question-spec = tie.close (tie.spec visible-requires members-of-requires lay-requires returns)

@@ -1,4 +1,5 @@
--- `keys::column::fill_words` meets its contract. The invariant: the words of the rows below q are filled. The measure is what is left of them.
+-- `keys::column::fill_words` meets its contract. The invariant: the words of the rows below q are filled. The measure
+-- is what is left of them.
 use Prim.Native.Nat.{ℕ, _+_, _-_, _*_, _≤_}
 use mathlib.Core.Path.{ap, _∙_}
 use native.Mathlib.Omega.{arith}
@@ -37,7 +38,8 @@ within c =
     omega (
       arith,
       ap (λ (x : ℕ). x * a .width) (c .index .ensures),
-      c .before .before .before .before .before .pre .1 (c .before .before .before .loop .q) (c .before .before .loop-test .taken),
+      c .before .before .before .before .before .pre .1 (c .before .before .before .loop .q)
+          (c .before .before .loop-test .taken),
     )
 
 mul-code-at : tie.Need-mul-code-at Inv-loop μ-loop
@@ -70,14 +72,16 @@ loop-again c =
     let l = c .before .before .before .before .before .loop in (
       omega arith,
       filling-more (now (a .cat)) (a .from) (a .width) (now (a .reached)) (l .q) _ _ _ _ (omega arith)
-          (c .before .code-at .ensures ∙ ap (λ (x : ℕ). codeOf (now (a .cat)) (a .from) (a .width) x) (c .before .before .index .ensures))
+          (c .before .code-at .ensures
+          ∙ ap (λ (x : ℕ). codeOf (now (a .cat)) (a .from) (a .width) x) (c .before .before .index .ensures))
           (omega arith) (c .word-of .ensures) (l .inv .1),
     )
 
 returns : tie.Need-returns Inv-loop μ-loop
 returns c =
     let a = c .before .before .before .args in
-    filling-done (now (a .cat)) (a .from) (a .width) (now (a .reached)) (a .end) _ _ _ (c .before .before .before .pre .0 .1) (omega arith)
+    filling-done (now (a .cat)) (a .from) (a .width) (now (a .reached)) (a .end) _ _ _
+    (c .before .before .before .pre .0 .1) (omega arith)
     (c .before .loop .inv .1)
 
 pub fill-words-spec : {M : Type 1} → statement M

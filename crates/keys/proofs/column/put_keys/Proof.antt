@@ -1,4 +1,5 @@
--- `keys::column::put_keys` meets its contract. The invariant: the rows below one are copied. The measure is what is left of them.
+-- `keys::column::put_keys` meets its contract. The invariant: the rows below one are copied. The measure is what is
+-- left of them.
 use Prim.Native.Nat.{ℕ, _+_, _-_, _*_, _≤_}
 use mathlib.Core.Path.{_≡_, ap}
 use native.Mathlib.Omega.{arith}
@@ -12,7 +13,8 @@ use Rattle.keys.proofs.column.put_keys.Statement.{statement}
 use Rattle.keys.proofs.column.put_keys.Tie as tie
 
 abbrev Inv-loop : tie.InvT-loop
-Inv-loop k end leaders keys₀ at row₀ keys row = (row ≤ end) × Filled (k * rowBound) (k * rowBound + row) (λ i. getD leaders (i - k * rowBound) 0) keys₀ keys
+Inv-loop k end leaders keys₀ at row₀ keys row =
+    (row ≤ end) × Filled (k * rowBound) (k * rowBound + row) (λ i. getD leaders (i - k * rowBound) 0) keys₀ keys
 
 abbrev μ-loop : tie.MeasureT-loop
 μ-loop k end leaders keys₀ at row₀ keys row = end - row
@@ -51,7 +53,8 @@ loop-again c =
     let place : l .row ≡ a .k * rowBound + l .row - a .k * rowBound = omega arith in (
       omega arith,
       filled-moved (omega arith)
-          (filled-more (l .inv .1) (omega arith) (omega arith) (omega arith) (ap (λ (i : ℕ). getD (now (a .leaders)) i 0) place)),
+          (filled-more (l .inv .1) (omega arith) (omega arith) (omega arith)
+          (ap (λ (i : ℕ). getD (now (a .leaders)) i 0) place)),
     )
 
 returns : tie.Need-returns Inv-loop μ-loop

@@ -31,7 +31,15 @@ agreeing-requires-8 c κs = search needs
 
 returns : tie.Need-returns
 returns c =
-    ap₂ bitOr (ap₂ bitOr (ap₂ bitOr (ap₂ bitOr (ap₂ bitOr (ap₂ bitOr (ap₂ bitOr (c .before .before .before .before .before .before .before .agreeing .ensures) (c .before .before .before .before .before .before .agreeing2 .ensures)) (c .before .before .before .before .before .agreeing3 .ensures)) (c .before .before .before .before .agreeing4 .ensures)) (c .before .before .before .agreeing5 .ensures)) (c .before .before .agreeing6 .ensures)) (c .before .agreeing7 .ensures)) (c .agreeing8 .ensures)
+    ap₂ bitOr
+    (ap₂ bitOr
+    (ap₂ bitOr
+    (ap₂ bitOr
+    (ap₂ bitOr (ap₂ bitOr (ap₂ bitOr (c .before .before .before .before .before .before .before .agreeing .ensures)
+    (c .before .before .before .before .before .before .agreeing2 .ensures))
+    (c .before .before .before .before .before .agreeing3 .ensures))
+    (c .before .before .before .before .agreeing4 .ensures)) (c .before .before .before .agreeing5 .ensures))
+    (c .before .before .agreeing6 .ensures)) (c .before .agreeing7 .ensures)) (c .agreeing8 .ensures)
 
 pub agreeing-eight-spec : {M : Type 1} → statement M
 agreeing-eight-spec =

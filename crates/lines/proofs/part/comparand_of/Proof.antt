@@ -29,8 +29,11 @@ power-requires : tie.Need-power-requires
 power-requires c κs = search needs
 
 -- the bit fits a byte
-small : (c : tie.After-power) → bit (c .before .before .args .few) (c .before .before .args .v + c .before .before .args .j) * c .power .result < 256
-small c = bit-fits (c .before .before .args .few) (c .before .before .args .v + c .before .before .args .j) (c .before .before .args .j) (c .power .result) (c .before .before .pre .2) (c .power .ensures)
+small : (c : tie.After-power)
+    → bit (c .before .before .args .few) (c .before .before .args .v + c .before .before .args .j) * c .power .result
+    < 256
+small c = bit-fits (c .before .before .args .few) (c .before .before .args .v + c .before .before .args .j)
+    (c .before .before .args .j) (c .power .result) (c .before .before .pre .2) (c .power .ensures)
 
 mul-bit : tie.Need-mul-bit
 mul-bit c = omega (arith, small c)

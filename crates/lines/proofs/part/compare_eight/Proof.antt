@@ -37,7 +37,8 @@ loop-less : tie.Need-loop-less Inv-loop μ-loop
 loop-less c = search needs
 
 loop-again : tie.Need-loop-again Inv-loop μ-loop
-loop-again c = let l = c .before .before .loop .inv in (l .0, line-more _ (omega arith) (c .agreeing-eight .ensures ∙ eight-part (l .0) _) (l .1))
+loop-again c = let l = c .before .before .loop .inv in
+    (l .0, line-more _ (omega arith) (c .agreeing-eight .ensures ∙ eight-part (l .0) _) (l .1))
 
 returns : tie.Need-returns Inv-loop μ-loop
 returns c = line-done (omega arith) (c .before .loop .inv .1)

@@ -33,10 +33,14 @@ wide-requires-2 : tie.Need-wide-requires-2 Inv-loop μ-loop
 wide-requires-2 c κs = search needs
 
 -- the number fits a line
-small : (c : tie.After-wide2 Inv-loop μ-loop) → c .before .before .wide .result + c .before .before .before .before .before .before .args .weight * c .wide2 .result < 65536
+small : (c : tie.After-wide2 Inv-loop μ-loop)
+    → c .before .before .wide .result + c .before .before .before .before .before .before .args .weight
+    * c .wide2 .result < 65536
 small c =
-    weighted-fits (c .before .before .wide .result) (c .wide2 .result) (c .before .before .before .before .before .before .args .weight)
-    (c .before .before .wide .ensures .1) (c .wide2 .ensures .1) (c .before .before .before .before .before .before .pre .3)
+    weighted-fits (c .before .before .wide .result) (c .wide2 .result)
+    (c .before .before .before .before .before .before .args .weight)
+    (c .before .before .wide .ensures .1) (c .wide2 .ensures .1)
+    (c .before .before .before .before .before .before .pre .3)
 
 mul-line : tie.Need-mul-line Inv-loop μ-loop
 mul-line c = omega (arith, small c)
@@ -57,7 +61,9 @@ loop-less : tie.Need-loop-less Inv-loop μ-loop
 loop-less c = search needs
 
 loop-again : tie.Need-loop-again Inv-loop μ-loop
-loop-again c = line-more _ (omega arith) (ap₂ (λ (a b : ℕ). a + c .before .before .before .before .before .before .args .weight * b) (c .before .before .wide .ensures .0) (c .wide2 .ensures .0)) (c .before .before .before .before .before .loop .inv)
+loop-again c = line-more _ (omega arith)
+    (ap₂ (λ (a b : ℕ). a + c .before .before .before .before .before .before .args .weight * b)
+    (c .before .before .wide .ensures .0) (c .wide2 .ensures .0)) (c .before .before .before .before .before .loop .inv)
 
 returns : tie.Need-returns Inv-loop μ-loop
 returns c = line-done (omega arith) (c .before .loop .inv)

@@ -14,8 +14,11 @@ returns : tie.Need-returns
 returns c =
     let s = c .before .before .before .before .before .before .before in
     let a = s .args in
-    let low = c .before .before .before .before .before .compare-eight .ensures in
-    (line-low (a .bytes .now) (a .few) (a .x) _ (a .high .now) (c .before .before .before .before .if1 .taken) low (c .join-parts .ensures), (low .long, s .pre .1 .1))
+    let low = c .before .before .before .before .before .compare-eight .ensures in (
+      line-low (a .bytes .now) (a .few) (a .x) _ (a .high .now) (c .before .before .before .before .if1 .taken) low
+          (c .join-parts .ensures),
+      (low .long, s .pre .1 .1),
+    )
 
 compare-eight-requires-2 : tie.Need-compare-eight-requires-2
 compare-eight-requires-2 c κs = search needs

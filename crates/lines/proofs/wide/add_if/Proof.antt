@@ -21,7 +21,8 @@ returns-2 c =
     let s = c .before .before .before in
     let a = s .args in (
       λ bytes o.
-          line-joined (a .keys .now) bytes (a .few) (a .k) (a .x) (a .line .now) (s .pre .0) (bit-zero-if _ _ (c .before .before .if1 .left)) (c .add-member .ensures) o,
+          line-joined (a .keys .now) bytes (a .few) (a .k) (a .x) (a .line .now) (s .pre .0)
+          (bit-zero-if _ _ (c .before .before .if1 .left)) (c .add-member .ensures) o,
       c .add-member .ensures .long,
     )
 

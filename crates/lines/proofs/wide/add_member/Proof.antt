@@ -1,4 +1,5 @@
--- `lines::wide::add_member` meets its contract. The invariant: the rows below q have the member, and those ahead are as they were.
+-- `lines::wide::add_member` meets its contract. The invariant: the rows below q have the member, and those ahead are
+-- as they were.
 use Prim.Native.Nat.{ℕ, _-_}
 use mathlib.Core.Path.{ap, ap₂, _∙_}
 use native.Mathlib.Nat.{le-refl}
@@ -36,7 +37,12 @@ power-requires : tie.Need-power-requires Inv-loop μ-loop
 power-requires c κs = search needs
 
 cast-bit : tie.Need-cast-bit Inv-loop μ-loop
-cast-bit c = omega (arith, c .power .ensures, pow-lt {i = c .before .before .args .k} {j = lineMembers} (omega (arith, c .before .before .pre .0)))
+cast-bit c =
+    omega (
+      arith,
+      c .power .ensures,
+      pow-lt {i = c .before .before .args .k} {j = lineMembers} (omega (arith, c .before .before .pre .0)),
+    )
 
 add-q : tie.Need-add-q Inv-loop μ-loop
 add-q c = search needs
@@ -80,7 +86,9 @@ loop-again c =
     let a = c .before .before .before .before .before .before .before .args in (
       line-more _ (omega arith)
           (ap₂ bitOr (l .inv .1 .as-was (l .q) (le-refl _) (omega arith))
-          (c .same-key .ensures ∙ ap (λ (w : ℕ). pick (eqb (keyAt (a .keys .now) (a .k) (a .x)) (keyAt (a .keys .now) (a .k) (l .q))) w 0) (c .before .before .before .before .before .power .ensures)))
+          (c .same-key .ensures ∙ ap
+          (λ (w : ℕ). pick (eqb (keyAt (a .keys .now) (a .k) (a .x)) (keyAt (a .keys .now) (a .k) (l .q))) w 0)
+          (c .before .before .before .before .before .power .ensures)))
           (l .inv .0),
       ahead-less _ (l .inv .1),
     )

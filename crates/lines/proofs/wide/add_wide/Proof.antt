@@ -11,7 +11,8 @@ use Rattle.lines.proofs.wide.add_wide.Statement.{statement}
 use Rattle.lines.proofs.wide.add_wide.Tie as tie
 
 abbrev Inv-loop : tie.InvT-loop
-Inv-loop keys few n x end line₀ k₀ line k = (k ≤ n) × (length line ≡ rowBound) × ((bytes : List ℕ) → LineOf (metAt keys bytes few 0 x) x end line₀ → LineOf (metAt keys bytes few k x) x end line)
+Inv-loop keys few n x end line₀ k₀ line k = (k ≤ n) × (length line ≡ rowBound)
+    × ((bytes : List ℕ) → LineOf (metAt keys bytes few 0 x) x end line₀ → LineOf (metAt keys bytes few k x) x end line)
 
 abbrev μ-loop : tie.MeasureT-loop
 μ-loop keys few n x end line₀ k₀ line k = n - k
@@ -37,7 +38,8 @@ returns : tie.Need-returns Inv-loop μ-loop
 returns c = λ bytes o.
     let a = c .before .before .args in
     let all : c .before .loop .k ≡ a .n = omega (arith, c .before .loop .inv .0) in
-    subst (λ (k : ℕ). LineOf (metAt (a .keys .now) bytes (a .few) k (a .x)) (a .x) (a .end) (c .before .loop .line)) all (c .before .loop .inv .2 bytes o)
+    subst (λ (k : ℕ). LineOf (metAt (a .keys .now) bytes (a .few) k (a .x)) (a .x) (a .end) (c .before .loop .line)) all
+    (c .before .loop .inv .2 bytes o)
 
 pub add-wide-spec : {M : Type 1} → statement M
 add-wide-spec =

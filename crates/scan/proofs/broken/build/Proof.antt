@@ -18,7 +18,9 @@ same-length : tie.Need-same-length
 same-length c = search needs
 
 returns : tie.Need-returns
-returns c = built (c .before .before .before .before .before .before .before .before .before .occurring .ensures) (c .before .before .before .before .before .before .before .before .before .before .before .before .pre .0) (c .before .before .before .before .before .before .write-broken .ensures) (c .before .before .close .ensures)
+returns c = built (c .before .before .before .before .before .before .before .before .before .occurring .ensures)
+    (c .before .before .before .before .before .before .before .before .before .before .before .before .pre .0)
+    (c .before .before .before .before .before .before .write-broken .ensures) (c .before .before .close .ensures)
 
 pub build-spec : {M : Type 1} → statement M
 build-spec =

@@ -17,9 +17,15 @@ abbrev μ-loop : tie.MeasureT-loop
 μ-loop seen n words₀ all end s₀ words s = end - s
 
 -- a word of the table
-within : (c : tie.After-if-seen Inv-loop μ-loop) → c .before .before .before .loop .s < length (c .before .before .before .loop .words)
+within : (c : tie.After-if-seen Inv-loop μ-loop)
+    → c .before .before .before .loop .s < length (c .before .before .before .loop .words)
 within c =
-    omega (arith, c .before .before .before .loop .inv .1 .same-length, c .before .before .before .before .power2 .ensures, c .before .before .before .before .before .before .before .pre .1)
+    omega (
+      arith,
+      c .before .before .before .loop .inv .1 .same-length,
+      c .before .before .before .before .power2 .ensures,
+      c .before .before .before .before .before .before .before .pre .1,
+    )
 
 add-power : tie.Need-add-power Inv-loop μ-loop
 add-power c = search needs
@@ -40,10 +46,12 @@ cast-if-seen : tie.Need-cast-if-seen Inv-loop μ-loop
 cast-if-seen c = search needs
 
 element-copy-out-if-seen : tie.Need-element-copy-out-if-seen Inv-loop μ-loop
-element-copy-out-if-seen c = set-inside _ _ _ (c .before .before .before .before .before .pre .0) (c .before .before .power2 .ensures) (c .loop-test .taken)
+element-copy-out-if-seen c = set-inside _ _ _ (c .before .before .before .before .before .pre .0)
+    (c .before .before .power2 .ensures) (c .loop-test .taken)
 
 sub-if-seen : tie.Need-sub-if-seen Inv-loop μ-loop
-sub-if-seen c = set-fits _ _ _ _ _ (c .before .before .before .power2 .ensures) (c .before .before .before .before .power .ensures) (c .before .loop-test .taken) (omega arith)
+sub-if-seen c = set-fits _ _ _ _ _ (c .before .before .before .power2 .ensures)
+    (c .before .before .before .before .power .ensures) (c .before .loop-test .taken) (omega arith)
 
 if-seen-requires : tie.Need-if-seen-requires Inv-loop μ-loop
 if-seen-requires c κs = search needs
@@ -68,14 +76,17 @@ loop-again c =
     let h = c .before .before .before .loop .inv .1 in (
       omega arith,
       filled-more h (omega arith) (omega arith) (omega (arith, within c, h .same-length))
-          (broken-is (c .before .before .before .before .before .before .before .args .seen .now) _ (c .before .before .before .loop .s) _ _ (c .before .before .before .before .before .power .ensures) (c .if-seen .ensures)),
+          (broken-is (c .before .before .before .before .before .before .before .args .seen .now) _
+          (c .before .before .before .loop .s) _ _ (c .before .before .before .before .before .power .ensures)
+          (c .if-seen .ensures)),
     )
 
 same-length : tie.Need-same-length Inv-loop μ-loop
 same-length c = c .before .loop .inv .1 .same-length
 
 returns : tie.Need-returns Inv-loop μ-loop
-returns c = filled-moved (omega (arith, c .before .loop .inv .0, c .before .before .power2 .ensures)) (c .before .loop .inv .1)
+returns c =
+    filled-moved (omega (arith, c .before .loop .inv .0, c .before .before .power2 .ensures)) (c .before .loop .inv .1)
 
 pub write-broken-spec : {M : Type 1} → statement M
 write-broken-spec =

@@ -12,7 +12,8 @@ use Rattle.scan.proofs.pairs.occurring.Tie as tie
 
 abbrev Inv-loop : tie.InvT-loop
 Inv-loop keys n end seen₀ bytes few low₀ high₀ line₀ x₀ seen low high line x =
-    (x ≤ end) × SeenBefore keys n end x seen × (length low ≡ rowBound) × (length high ≡ rowBound) × (length line ≡ rowBound)
+    (x ≤ end) × SeenBefore keys n end x seen × (length low ≡ rowBound) × (length high ≡ rowBound)
+    × (length line ≡ rowBound)
 
 abbrev μ-loop : tie.MeasureT-loop
 μ-loop keys n end seen₀ bytes few low₀ high₀ line₀ x₀ seen low high line x = end - x
@@ -33,8 +34,10 @@ line-of-requires : tie.Need-line-of-requires Inv-loop μ-loop
 line-of-requires c κs =
     let h = c .before .before .before .before .before .before .before .before .pre .0 in
     let l = c .before .before .before .before .before .loop .inv in
-    let t = c .before .before .before .before .loop-test .taken in
-    ((h .0, omega (arith, h .1), h .1), ((l .2, l .3, l .4), c .before .before .before .before .before .before .number .ensures))
+    let t = c .before .before .before .before .loop-test .taken in (
+      (h .0, omega (arith, h .1), h .1),
+      ((l .2, l .3, l .4), c .before .before .before .before .before .before .number .ensures),
+    )
 
 add-note-line : tie.Need-add-note-line Inv-loop μ-loop
 add-note-line c = search needs
@@ -46,7 +49,9 @@ note-line-requires c κs =
     let t = c .before .before .before .before .before .before .before .loop-test .taken in
     let sets = c .before .before .line-of .ensures .0 in (
       (omega arith, h .1, c .before .before .before .before .before .before .before .before .loop .inv .1 .long),
-      λ q k m. sets-small (a .keys .now) (a .n) (c .before .before .before .before .before .before .before .before .loop .x) (a .end) (h .0) sets q (omega arith) m,
+      λ q k m. sets-small (a .keys .now) (a .n)
+          (c .before .before .before .before .before .before .before .before .loop .x) (a .end) (h .0) sets q
+          (omega arith) m,
     )
 
 add-x : tie.Need-add-x Inv-loop μ-loop
@@ -59,7 +64,9 @@ loop-again : tie.Need-loop-again Inv-loop μ-loop
 loop-again c =
     let f = c .before .before .before .line-of .ensures in (
       omega arith,
-      seen-more (c .before .before .before .before .before .before .before .before .loop-test .taken) (f .0) (c .note-line .ensures) (c .before .before .before .before .before .before .before .before .before .loop .inv .1),
+      seen-more (c .before .before .before .before .before .before .before .before .loop-test .taken) (f .0)
+          (c .note-line .ensures) (c .before .before .before .before .before .before .before .before .before .loop .inv
+          .1),
       f .1 .0,
       f .1 .1,
       f .0 .long,

@@ -40,7 +40,8 @@ loop-less : tie.Need-loop-less Inv-loop μ-loop
 loop-less c = search needs
 
 loop-again : tie.Need-loop-again Inv-loop μ-loop
-loop-again c = gathering-more (c .before .before .before .loop-test .taken) (c .before .power .ensures) (c .if-seen .ensures) (c .before .before .before .before .loop .inv)
+loop-again c = gathering-more (c .before .before .before .loop-test .taken) (c .before .power .ensures)
+    (c .if-seen .ensures) (c .before .before .before .before .loop .inv)
 
 returns : tie.Need-returns Inv-loop μ-loop
 returns c = gathering-all (omega arith) (c .before .loop .inv)

@@ -11,7 +11,12 @@ use Rattle.scan.proofs.seeds.sow.Tie as tie
 -- the cursor, the count and a pair are inside
 behind : (c : tie.After-power) → c .power .result + 4 ≤ length (c .before .before .before .write-seeds .last .1 .1 .0)
 behind c =
-    omega (arith, c .before .before .before .write-seeds .ensures .same-length, c .power .ensures, c .before .before .before .before .before .before .before .before .before .pre .3)
+    omega (
+      arith,
+      c .before .before .before .write-seeds .ensures .same-length,
+      c .power .ensures,
+      c .before .before .before .before .before .before .before .before .before .pre .3,
+    )
 
 occurring-requires : tie.Need-occurring-requires
 occurring-requires c κs = ((c .before .before .pre .1, c .before .before .pre .2), blank-begun)
@@ -42,7 +47,9 @@ same-length c = search needs
 
 returns : tie.Need-returns
 returns c = (
-  sown (c .before .before .before .before .before .before .occurring .ensures) (c .power .result) (c .before .before .before .before .before .before .before .before .before .pre .0) (c .power .ensures) (c .before .before .before .write-seeds .ensures),
+  sown (c .before .before .before .before .before .before .occurring .ensures) (c .power .result)
+      (c .before .before .before .before .before .before .before .before .before .pre .0) (c .power .ensures)
+      (c .before .before .before .write-seeds .ensures),
   none-cached _ _ (c .before .before .before .write-seeds .last .1 .1 .0) (c .power .ensures) (behind c),
 )
 

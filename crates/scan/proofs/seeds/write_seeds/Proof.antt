@@ -20,7 +20,12 @@ abbrev μ-loop : tie.MeasureT-loop
 -- a word of the seeds
 within : (c : tie.After-gathered Inv-loop μ-loop) → c .before .before .loop .i < length (c .before .before .loop .words)
 within c =
-    omega (arith, c .before .before .loop .inv .1 .same-length, c .before .before .before .power .ensures, c .before .before .before .before .before .pre .2)
+    omega (
+      arith,
+      c .before .before .loop .inv .1 .same-length,
+      c .before .before .before .power .ensures,
+      c .before .before .before .before .before .pre .2,
+    )
 
 sub-power : tie.Need-sub-power Inv-loop μ-loop
 sub-power c = search needs
@@ -32,7 +37,8 @@ loop-holds : tie.Need-loop-holds Inv-loop μ-loop
 loop-holds c = (omega arith, filled-none)
 
 gathered-requires : tie.Need-gathered-requires Inv-loop μ-loop
-gathered-requires c κs = seed-inside _ _ _ (c .before .before .before .before .pre .0) (c .before .before .before .before .pre .1) (c .before .before .power .ensures) (c .loop-test .taken)
+gathered-requires c κs = seed-inside _ _ _ (c .before .before .before .before .pre .0)
+    (c .before .before .before .before .pre .1) (c .before .before .power .ensures) (c .loop-test .taken)
 
 cast-words : tie.Need-cast-words Inv-loop μ-loop
 cast-words c = search needs
@@ -51,14 +57,18 @@ loop-less c = search needs
 
 loop-again : tie.Need-loop-again Inv-loop μ-loop
 loop-again c =
-    let h = c .before .before .loop .inv .1 in
-    (omega arith, filled-more h (omega arith) (omega arith) (omega (arith, within c, h .same-length)) (c .gathered .ensures))
+    let h = c .before .before .loop .inv .1 in (
+      omega arith,
+      filled-more h (omega arith) (omega arith) (omega (arith, within c, h .same-length))
+          (c .gathered .ensures),
+    )
 
 same-length : tie.Need-same-length Inv-loop μ-loop
 same-length c = c .before .loop .inv .1 .same-length
 
 returns : tie.Need-returns Inv-loop μ-loop
-returns c = filled-moved (omega (arith, c .before .loop .inv .0, c .before .before .power .ensures)) (c .before .loop .inv .1)
+returns c =
+    filled-moved (omega (arith, c .before .loop .inv .0, c .before .before .power .ensures)) (c .before .loop .inv .1)
 
 pub write-seeds-spec : {M : Type 1} → statement M
 write-seeds-spec =

@@ -1,4 +1,5 @@
--- `list_in_steps` is safe and ends: the codes and the words stay as many, and the place rises with every call that is counted.
+-- `list_in_steps` is safe and ends: the codes and the words stay as many, and the place rises with every call that is
+-- counted.
 use Prim.Native.Nat.{_≤_, _-_}
 use mathlib.Core.Path.{_≡_}
 use lib.ListN.{length}
@@ -7,7 +8,8 @@ use Rattle.trials.proofs.steps.list_in_steps.Statement.{statement}
 use Rattle.trials.proofs.steps.list_in_steps.Tie as tie
 
 abbrev Inv-loop : tie.InvT-loop
-Inv-loop cat budget room joined₀ work₀ held₀ calls₀ n₀ joined work held calls n = (length joined ≡ length joined₀) × (length work ≡ length work₀) × (calls ≤ held)
+Inv-loop cat budget room joined₀ work₀ held₀ calls₀ n₀ joined work held calls n =
+    (length joined ≡ length joined₀) × (length work ≡ length work₀) × (calls ≤ held)
 
 abbrev μ-loop : tie.MeasureT-loop
 μ-loop cat budget room joined₀ work₀ held₀ calls₀ n₀ joined work held calls n = 10 - held

@@ -1,5 +1,5 @@
--- `walk::find` meets its contract. The invariant: the targets below are passed, and the index is what is left of the place.
--- The measure is the number of targets left.
+-- `walk::find` meets its contract. The invariant: the targets below are passed, and the index is what is left of the
+-- place. The measure is the number of targets left.
 use Prim.Native.Nat.{ℕ, _-_, _^_}
 use mathlib.Core.Path.{ap, _∙_}
 use native.Mathlib.Omega.{arith}

@@ -33,7 +33,8 @@ returns : tie.Need-returns
 unfolding bitsOf
 returns c =
     let s = c .before .before .before .before in
-    set-is _ _ (Set (c .before .s .given .0 .0)) (s .pre .0) (s .pre .1) (c .before .before .before .at .ensures) (c .before .s .given .1)
+    set-is _ _ (Set (c .before .s .given .0 .0)) (s .pre .0) (s .pre .1) (c .before .before .before .at .ensures)
+    (c .before .s .given .1)
 
 returns-2 : tie.Need-returns-2
 unfolding bitsOf

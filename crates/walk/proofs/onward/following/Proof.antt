@@ -43,7 +43,8 @@ returns c =
     let s = c .before .before .before .before .before .before .before .before in
     let e : nextOf (s .args .w .members) (membersOf (s .args .w .left)) ≡ Nothing =
     sym (c .before .before .before .before .before .next .ensures) ∙ c .before .before .before .enum-told .given .1 in
-    follow-none (ordinary (now (s .args .cat))) (s .args .w) (now (s .args .work)) (s .pre .1 .0) (s .pre .1 .1 .0) (now (s .args .work)) e (omega arith)
+    follow-none (ordinary (now (s .args .cat))) (s .args .w) (now (s .args .work)) (s .pre .1 .0) (s .pre .1 .1 .0)
+    (now (s .args .work)) e (omega arith)
 
 prepare-requires : tie.Need-prepare-requires
 prepare-requires c κs = search needs
@@ -59,7 +60,8 @@ returns-2 c =
     let s = c .before .before .before .before .before .before in
     let e : nextOf (s .args .w .members) (membersOf (s .args .w .left)) ≡ Set (c .before .s .given .0 .0) =
     sym (c .before .before .before .next .ensures) ∙ c .before .s .given .1 in
-    follow-within (ordinary (now (s .args .cat))) (s .args .w) (now (s .args .work)) (s .pre .1 .0) (s .pre .1 .1 .0) (c .before .s .given .0 .0) (s .pre .1 .1 .1) e
+    follow-within (ordinary (now (s .args .cat))) (s .args .w) (now (s .args .work)) (s .pre .1 .0) (s .pre .1 .1 .0)
+    (c .before .s .given .0 .0) (s .pre .1 .1 .1) e
 
 same-length : tie.Need-same-length
 same-length c = search needs

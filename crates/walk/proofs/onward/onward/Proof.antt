@@ -28,7 +28,8 @@ pass-requires c κs =
     let s = c .before .before .before .before .before .before .before .before .before .before .before .before in
     let f = c .before .before .before .before .before .before .following in
     let a =
-    subst (λ (r : Reached). Follows (ordinary (now (s .args .cat))) (s .args .w) r (f .last .1 .1 .0)) (c .before .before .v .given .1)
+    subst (λ (r : Reached). Follows (ordinary (now (s .args .cat))) (s .args .w) r (f .last .1 .1 .0))
+    (c .before .before .v .given .1)
     (f .ensures) in
     (s .pre .0, (a .fresh, a .ready))
 
@@ -45,9 +46,11 @@ returns-2 c =
     let f = p .before .before .before .before .before .before .following in
     let q = c .before .before .pass in
     let a =
-    subst (λ (r : Reached). Follows (ordinary (now (s .args .cat))) (s .args .w) r (f .last .1 .1 .0)) (p .before .before .v .given .1)
+    subst (λ (r : Reached). Follows (ordinary (now (s .args .cat))) (s .args .w) r (f .last .1 .1 .0))
+    (p .before .before .v .given .1)
     (f .ensures) in
-    goes (ordinary (now (s .args .cat))) (s .args .w) (now (s .args .work)) (s .pre .1 .0) (s .pre .1 .1) (p .before .before .v .given .0 .0) (q .result)
+    goes (ordinary (now (s .args .cat))) (s .args .w) (now (s .args .work)) (s .pre .1 .0) (s .pre .1 .1)
+    (p .before .before .v .given .0 .0) (q .result)
     (f .last .1 .1 .0) (q .last .1 .1 .0) a (q .ensures)
 
 same-length-2 : tie.Need-same-length-2
@@ -58,7 +61,8 @@ returns-3 c =
     let s = c .before .before .before .before .before .before .before .before .before .before in
     let f = c .before .before .before .before .following in
     stopped-end (ordinary (now (s .args .cat))) (s .args .w) (s .pre .1 .1)
-    (subst (λ (r : Reached). Follows (ordinary (now (s .args .cat))) (s .args .w) r (f .last .1 .1 .0)) (c .enum-told .given .1) (f .ensures))
+    (subst (λ (r : Reached). Follows (ordinary (now (s .args .cat))) (s .args .w) r (f .last .1 .1 .0))
+    (c .enum-told .given .1) (f .ensures))
 
 pub onward-spec : {M : Type 1} → statement M
 onward-spec =

@@ -39,8 +39,13 @@ returns c =
 
 prepare-requires : tie.Need-prepare-requires
 prepare-requires c κs =
-    let s = c .before .before .before .before .before in
-    (s .pre .0, (fresh-target (ordinary (now (s .args .cat))) (s .args .w) (now (s .args .work)) (s .pre .1), s .pre .1 .sound .enough))
+    let s = c .before .before .before .before .before in (
+      s .pre .0,
+      (
+        fresh-target (ordinary (now (s .args .cat))) (s .args .w) (now (s .args .work)) (s .pre .1),
+        s .pre .1 .sound .enough,
+      ),
+    )
 
 entering-requires : tie.Need-entering-requires
 entering-requires c κs = search needs
@@ -77,13 +82,16 @@ same-length-2 c = search needs
 
 returns-2 : tie.Need-returns-2
 returns-2 c =
-    let s = c .before .before .before .before .before .before .before .before .before .before .before .before .before .before in
+    let s =
+    c .before .before .before .before .before .before .before .before .before .before .before .before .before
+    .before in
     let l = ordinary (now (s .args .cat)) in
     let words = now (s .args .work) in
     let e = c .before .before .before .before .before .entering in
     let r = c .before .before .before .rights in
     entered-passes l (s .args .w) words (s .pre .1) (e .ensures) (c .passed2 .result) (r .last .1 .1 .1 .1 .1 .1 .0)
-    (passes-by l (e .result) words (entered-fresh l (s .args .w) words (s .pre .1) (e .ensures) words refl) _ (r .ensures .0) _
+    (passes-by l (e .result) words (entered-fresh l (s .args .w) words (s .pre .1) (e .ensures) words refl) _
+    (r .ensures .0) _
     (λ some. r .ensures .1) (search needs) (c .passed2 .result) (c .passed2 .ensures))
 
 pub pass-first-spec : {M : Type 1} → statement M
