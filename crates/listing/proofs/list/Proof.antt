@@ -6,7 +6,8 @@
 --                about them
 --     puts       a turn that puts an entry: it ends nearer, in the state that `step` answered
 --     ends       the turn that leaves: the slices are shut, and the answer is returned
---     walk       the code up to the loop
+--     starts     the code from the answer of `begin` to the turns
+--     walk       the code up to there
 -- What `begin` and `step` say is not looked into: every fact about it is cited from `Steps.antt`. Assumes nothing.
 use mathlib.Core.Path.{_≡_, refl, sym}
 use Prim.Native.Nat.{ℕ, _+_, _-_, _*_, _<_, _^_}
@@ -29,7 +30,8 @@ use ghost.Atoms.{Atoms}
 use contract.Lifetimes.{Lfts}
 use contract.Monad.{Fun, factI}
 use contract.Running.{givenOf, tables, tablesOf}
-use types.Kit.{Given, Goal, Soaks, Item, Sq, runs, anyQ, ‵, raw, _⊛_, ⋆, some, later, _$_, _∵_, !, qed, by, move, keep}
+use types.Kit.{Given, Goal, Soaks, Item, Sq, runs, anyQ, atRet, ‵, raw, _⊛_, ⋆, some, later, _$_, _∵_, !, qed, by}
+use types.Kit.{move, keep}
 use types.Kit.{drop, use1, use2, use3, split, join, pick, rewrite, fsplit, fjoin, suffices, frame}
 use types.Kit.{await, updating, now as at-once, done}
 use types.Part.{whole, sub, look-in, agg}
@@ -393,16 +395,24 @@ module _ {M : Type 1} (𝓤 : URA M) (H : Heap 𝓤) (A : Atoms 𝓤) (W : Given
       abbrev room : Ty → ℕ → List (Item 𝓤) → List (Item 𝓤)
       room τ l Γ = ‵ (froom τ l 0) ∷ ‵ (fdies τ l) ∷ Γ
 
-      -- the locals before a turn
-      abbrev Locals : Val → ℕ → List (Item 𝓤)
-      Locals v n =
+      -- the parameters and the result, and the locals that only a turn or a call uses
+      abbrev Given-locals : List (Item 𝓤)
+      Given-locals =
+          holds workTy l₅ workVal (holds runTy l₄ runVal (holds (tyInt w32) l₃ (vint w32 budget)
+          (holds (tyInt w32) l₂ (vint w32 place) (holds catTy l₁ catVal (room L′.mir l₀ [])))))
+
+      abbrev turn-locals : List (Item 𝓤) → List (Item 𝓤)
+      turn-locals Γ =
           room (sliceTy lentRef) l₁₇ (room lentRef l₁₆ (room tyPtr l₁₅ (room (tyInt w64) l₁₄
-          (room (sliceTy lentRef) l₁₃ (room lentRef l₁₂ (room (tyInt w64) l₁₁ (room L′.mir l₁₀
-          (room K′.mir l₉ (room R′.mir l₈ (holds (tyInt w64) l₇ (vint w64 n)
-          (holds S′.mir l₆ v
-          (holds workTy l₅ workVal (holds runTy l₄ runVal (holds (tyInt w32) l₃ (vint w32 budget) (holds
-          (tyInt w32) l₂ (vint w32 place)
-          (holds catTy l₁ catVal (room L′.mir l₀ [])))))))))))))))))
+          (room (sliceTy lentRef) l₁₃ (room lentRef l₁₂ (room (tyInt w64) l₁₁ (room L′.mir l₁₀ (room K′.mir l₉
+          (room R′.mir l₈ Γ)))))))))
+
+      -- the locals before a turn, and once `begin` has answered
+      abbrev Locals : Val → ℕ → List (Item 𝓤)
+      Locals v n = turn-locals (holds (tyInt w64) l₇ (vint w64 n) (holds S′.mir l₆ v Given-locals))
+
+      abbrev Begun : Val → List (Item 𝓤)
+      Begun v = turn-locals (room (tyInt w64) l₇ (holds S′.mir l₆ v Given-locals))
 
       -- the whole context before a turn
       abbrev At : State → List (Item 𝓤)
@@ -531,6 +541,14 @@ module _ {M : Type 1} (𝓤 : URA M) (H : Heap 𝓤) (A : Atoms 𝓤) (W : Given
           turn (Put e w) put ws known is = puts e w put ws known is
           turn (Done a) put ws known is = ends a put ws known is
 
+      -- the code once `begin` has answered: nothing is put, and the turns begin
+      starts : (s : Stepped) (ws : List ℕ) → Known s [] ws → Is S.the-row s (stepVal s ∷ [])
+          → Sq W (‵ (runRow run) ∷ ‵ (workRow ws) ∷ ‵ catOwn ∷ ‵ (flft κ₀ q₀) ∷ ‵ runShuts ∷ ‵ workShuts
+          ∷ Begun (stepVal s)) (runs C Λ E mir.t-5 (atRet E Post))
+      starts s ws known is =
+          assigns ! (of-opd ! (lit ! tt)) (from ! (stop !)) (init ! 26 refl (tt, record { fits = lit< tt })) $
+          first ! $ blocks ! $ loops ! 𝓣 Nearer Nearer-wf At turns (s, [], ws, known, is)
+
     -- both slices are opened
     begins : ent 𝓤 (onEntry 𝓤 H A list.signature κs (bound .0 .1) (bound .0 .3) at)
         (H .⇛ (⋆ 𝓤 H A (‵ (runRow run) ∷ ‵ (workRow words) ∷ ‵ catOwn ∷ ‵
@@ -599,18 +617,10 @@ module _ {M : Type 1} (𝓤 : URA M) (H : Heap 𝓤) (A : Atoms 𝓤) (W : Given
         words-back tt words ν δ (ls .1 .1 .1 .1 .0) (
         land ! (from ! (stop !)) (init ! 28 refl (step-typed s v (told .typed))) $
         rewrite ! 28 (λ (u : Val). ‵ (fat fullShare S′.mir l₆ 0 u)) (told .value) refl $
-        assigns ! (of-opd ! (lit ! tt)) (from ! (stop !)) (init ! 26 refl (tt, record { fits = lit< tt })) $
         forget ! 18 refl $ forget ! 16 refl $ forget ! 14 refl $
-        first ! $ blocks ! $
-        loops ! 𝓣 Nearer Nearer-wf (At l₀ l₁ l₂ l₃ l₄ l₅ l₆ l₇ l₈ l₉ l₁₀ l₁₁ l₁₂ l₁₃ l₁₄ l₁₅ l₁₆ l₁₇)
-        (turns l₀ l₁ l₂ l₃ l₄ l₅ l₆ l₇ l₈ l₉ l₁₀ l₁₁ l₁₂ l₁₃ l₁₄ l₁₅ l₁₆ l₁₇) (
-          s,
-          [],
-          ls .1 .1 .1 .1 .0,
-          begun (ordinary (now cat)) ground all answers run words s (ls .1 .1 .1 .1 .0) (told .ensured)
-              (told .kept .1 .1 .1 .1 .0 .1),
-          told .settled,
-        ))))
+        starts l₀ l₁ l₂ l₃ l₄ l₅ l₆ l₇ l₈ l₉ l₁₀ l₁₁ l₁₂ l₁₃ l₁₄ l₁₅ l₁₆ l₁₇ s (ls .1 .1 .1 .1 .0)
+        (begun (ordinary (now cat)) ground all answers run words s (ls .1 .1 .1 .1 .0) (told .ensured)
+        (told .kept .1 .1 .1 .1 .0 .1)) (told .settled))))
         ))))))))))))))))))
 
 module _ {M : Type 1} (𝓤 : URA M) (H : Heap 𝓤) (A : Atoms 𝓤) (W : Given 𝓤 H A) (mem : Memory → SProp 𝓤)
