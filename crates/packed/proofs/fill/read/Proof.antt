@@ -55,7 +55,7 @@ use denote.Triple.Walked.{says, Stays, stay-none-slice, stay-none, stay-slice, w
 use denote.Triple.Walked.{goes-slice, AllGo, ends-at}
 use denote.Exit.{yes}
 use Rattle.model.specs.Entry.{entry}
-use Rattle.model.specs.Entries.{entryAt}
+use Rattle.model.specs.Entries.{entryBytes, entryAt}
 use Rattle.model.specs.declared.Entry.{Entry}
 use Rattle.model.specs.declared.EntriesAnswer.{EntriesAnswer}
 use Rattle.model.proofs.Entry as R
@@ -267,7 +267,7 @@ module _ {M : Type 1} (𝓤 : URA M) (H : Heap 𝓤) (A : Atoms 𝓤) (W : Given
         abbrev At : State s known is → List (Item 𝓤)
         At t =
             ‵ (runRow (nowRun s known is (t .0))) ∷ ‵ fileOwn ∷ ‵ (flft κ₀ q₀) ∷ ‵ runShuts
-            ∷ Locals (planVal s) (t .0) (s .first + 4 * t .0)
+            ∷ Locals (planVal s) (t .0) (s .first + entryBytes * t .0)
 
         -- where a turn ends: nearer, or out of the function
         abbrev Turned : State s known is → Out → SProp 𝓤
@@ -289,13 +289,13 @@ module _ {M : Type 1} (𝓤 : URA M) (H : Heap 𝓤) (A : Atoms 𝓤) (W : Given
           more : n + 1 < 2 ^ 64
           more = omega (arith, free, gr .0)
 
-          there : s .first + 4 * n < 2 ^ 64
+          there : s .first + entryBytes * n < 2 ^ 64
           there = omega (arith, less, known .inside, gb .0)
 
-          on : s .first + 4 * n + 4 < 2 ^ 64
+          on : s .first + entryBytes * n + entryBytes < 2 ^ 64
           on = omega (arith, less, known .inside, gb .0)
 
-          next : s .first + 4 * n + 4 ≡ s .first + 4 * (n + 1)
+          next : s .first + entryBytes * n + entryBytes ≡ s .first + entryBytes * (n + 1)
           next = omega arith
 
           fewer : s .count - (n + 1) < s .count - n
@@ -311,17 +311,17 @@ module _ {M : Type 1} (𝓤 : URA M) (H : Heap 𝓤) (A : Atoms 𝓤) (W : Given
             move ! (1 ∷ []) $
             use1 W (‵ fileOwn ⊛ ‵ fileOwn) (shr-slice-copy 𝓤 H A W (named 0) κ₀ u8 .twice file (fileVal ∷ [])) $ split ! $
             nothing ! $
-            owned ! usize (Is usize) (uint-makes 𝓤 H A W w64) (s .first + 4 * t .0) _ (refl, there (t .0) less) $
-            fjoin ! $
+            owned ! usize (Is usize) (uint-makes 𝓤 H A W w64) (s .first + entryBytes * t .0) _
+            (refl, there (t .0) less) $ fjoin ! $
             move ! (1 ∷ 0 ∷ []) $ fjoin ! $ nothing ! $ move ! (4 ∷ 0 ∷ []) $ join ! $
             -- [the token; what `entry_from` is passed; the file; the run; what shuts it; the locals]
             calls ! fm entry-from.ended (entry-from.clauses 𝓤 H A mem routine) known-entry
-            (to-entry (s .first + 4 * t .0))
+            (to-entry (s .first + entryBytes * t .0))
             (id⊢ 𝓤 (emp 𝓤))
             (and-then ! (load ! (at-place ! (stop !)) (look ! 24 refl))
             (and-then ! (load ! (at-place ! (stop !)) (look ! 14 refl)) (no-more !)))
-            entryVal (struct.tells R.the-type R′.the-laws) (λ e _. e ≡ entryAt (now file) (s .first + 4 * t .0))
-            (λ e _. id⊢ 𝓤 _) (λ v e _ told.
+            entryVal (struct.tells R.the-type R′.the-laws)
+            (λ e _. e ≡ entryAt (now file) (s .first + entryBytes * t .0)) (λ e _. id⊢ 𝓤 _) (λ v e _ told.
             split ! $ move ! (1 ∷ 2 ∷ 3 ∷ []) $ drop ! $ drop ! $ drop ! $ move ! (2 ∷ 1 ∷ 0 ∷ []) $
             -- [the run; the file; its token; what shuts the run; the locals]
             land ! (at-place ! (stop !)) (init ! 8 refl (entry-typed e v (told .typed))) $
@@ -400,7 +400,7 @@ module _ {M : Type 1} (𝓤 : URA M) (H : Heap 𝓤) (A : Atoms 𝓤) (W : Given
           loops ! 𝓣 (Nearer s (told .ensured) (told .settled)) (Nearer-wf s (told .ensured) (told .settled))
           (At s (told .ensured) (told .settled)) (turns s (told .ensured) (told .settled)) (0, omega arith))
         where
-          at-first : (p : ℕ) → p ≡ p + 4 * 0
+          at-first : (p : ℕ) → p ≡ p + entryBytes * 0
           at-first p = omega arith
 
     -- the run is opened
