@@ -1,5 +1,6 @@
--- The walk of `list`, over plain values: where it stands before each turn, what a turn that puts an entry does to it, and what it
--- shows when nothing is left. It looks into no definition of specs/Meaning.antt of `walk`, so a change there leaves it as it is.
+-- The walk of `list`, over plain values: where it stands before each turn, what a turn that puts an entry does to it,
+-- and what it shows when nothing is left. It looks into no definition of specs/Meaning.antt of `walk`, so a change
+-- there leaves it as it is.
 use Prim.Native.Nat.{ℕ, zero, suc, _+_, _-_, _≤_, _<_}
 use native.Mathlib.Omega.{arith}
 use mathlib.Core.Path.{_≡_, refl, sym, _∙_, ap, subst}
@@ -94,7 +95,8 @@ module _ (l : Listing) (code : ℕ) (es : List Entry) (vs : List ℕ) (run : Lis
   written-all put now a f = ap runWith (sym (append-nil put) ∙ f .all) ∙ due-after code
 
 -- when nothing is left the call did what it must
-pub lists : (before : ℕ) (l : Listing) (place budget : ℕ) (run : List Entry) (words : List ℕ) (put : List Entry) (now : List ℕ)
+pub lists : (before : ℕ) (l : Listing) (place budget : ℕ) (run : List Entry) (words : List ℕ) (put : List Entry)
+    (now : List ℕ)
     (a : ListAnswer)
     → Facts l (codeAfter before (cells l) place budget (length run) (length words)) (whole l place budget (length run))
     (values l place budget (length run)) run words (Done a) put now

@@ -28,16 +28,20 @@ run-after-append {A} (suc k) es xs ys h =
     ap (λ (l : List A). l ++ ys) (ifEq-no (es ++ drop (length es) xs) (λ e. omega arith))
     ∙ sym (ifEq-no (es ++ drop (length es) (xs ++ ys)) (λ e. omega arith))
 
-pub run-is-run-after-zeros : (cat : List ℕ) (place budget room : ℕ) (work : List ℕ) (answer : ListAnswer) (run : List Entry)
+pub run-is-run-after-zeros : (cat : List ℕ) (place budget room : ℕ) (work : List ℕ) (answer : ListAnswer)
+    (run : List Entry)
     (workThen : List ℕ)
     → FilledBy cat place budget room work answer run workThen
-    → run ≡ runAfter (listCode cat place budget (cap room) (length work)) (whole (ordinary cat) place budget (cap room)) (replicate runBound (entry 0 0 0))
+    → run ≡ runAfter (listCode cat place budget (cap room) (length work)) (whole (ordinary cat) place budget (cap room))
+    (replicate runBound (entry 0 0 0))
 run-is-run-after-zeros cat place budget room work answer run workThen f =
     sym (take-append-drop (cap room) run)
-    ∙ ap₂ (λ (l m : List Entry). l ++ m) (f .listed .run ∙ ap lent (length-replicate (cap room) (entry 0 0 0))) (f .others)
-    ∙ run-after-append (listCode cat place budget (cap room) (length work)) (whole (ordinary cat) place budget (cap room)) (fresh room) (rest room)
+    ∙ ap₂ (λ (l m : List Entry). l ++ m) (f .listed .run ∙ ap lent (length-replicate (cap room) (entry 0 0 0)))
+    (f .others) ∙ run-after-append (listCode cat place budget (cap room) (length work))
+    (whole (ordinary cat) place budget (cap room)) (fresh room) (rest room)
     (rw (length-replicate (cap room) (entry 0 0 0)) (written-fits budget (cap room) _))
-    ∙ ap (runAfter (listCode cat place budget (cap room) (length work)) (whole (ordinary cat) place budget (cap room))) (sym (run-parts room))
+    ∙ ap (runAfter (listCode cat place budget (cap room) (length work)) (whole (ordinary cat) place budget (cap room)))
+    (sym (run-parts room))
   where
     -- what a lent run of so many zero entries becomes
     lent : ℕ → List Entry

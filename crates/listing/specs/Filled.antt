@@ -1,5 +1,5 @@
--- A listing call with a run by value: what it leaves in the first records is what `list` leaves in a lent run of zero entries, and the records
--- past the room are zero entries.
+-- A listing call with a run by value: what it leaves in the first records is what `list` leaves in a lent run of zero
+-- entries, and the records past the room are zero entries.
 use Prim.Native.Nat.{ℕ, _-_}
 use mathlib.Core.Path.{_≡_}
 use mathlib.Core.List.{List}
@@ -20,9 +20,11 @@ unfoldable pub cap : ℕ → ℕ
 cap room = ifLt room runBound room runBound
 
 -- The whole run is then one equation (`run-is-run-after-zeros` of proofs/WholeRun.antt):
---     run ≡ runAfter (listCode cat place budget (cap room) (length work)) (whole (ordinary cat) place budget (cap room))
+--    run ≡ runAfter (listCode cat place budget (cap room) (length work)) (whole (ordinary cat) place budget (cap
+--         room))
 --         (replicate runBound (entry 0 0 0))
-pub record FilledBy (cat : List ℕ) (place budget room : ℕ) (work : List ℕ) (answer : ListAnswer) (run : List Entry) (workThen : List ℕ)
+pub record FilledBy (cat : List ℕ) (place budget room : ℕ) (work : List ℕ) (answer : ListAnswer) (run : List Entry)
+    (workThen : List ℕ)
     : Type 0 where
   pub listed : ListMeaning cat
       (seen place budget (replicate (cap room) (entry 0 0 0)) work (listReply answer) (take (cap room) run) workThen)

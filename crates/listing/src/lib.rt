@@ -1,4 +1,5 @@
-// The listing call: entries are put into a lent run of records, one after the other, as `steps` says: `list` stores and counts.
+// The listing call: entries are put into a lent run of records, one after the other, as `steps` says: `list` stores
+// and counts.
 // Relies on `steps` for everything else. Called by hosts and programs.
 ghost use mathlib.Core.Path.{_≡_};
 ghost use Rattle.model.specs.Reply.{listReply};
@@ -14,7 +15,8 @@ use steps::step;
 // Puts the entries of a call into the run, one after the other.
 pub fn list(cat: &[u8], place: u32, budget: u32, run: &mut [Entry], work: &mut [u32]) -> ListAnswer
     ensures { λ r. ⌜ ListMeaning (now (cat .entry))
-        (seen place budget (now (run .entry)) (now (work .entry)) (listReply r) (now (run .exit)) (now (work .exit))) ⌝ }
+        (seen place budget (now (run .entry)) (now (work .entry)) (listReply r) (now (run .exit))
+        (now (work .exit))) ⌝ }
 {
     let mut s = begin(cat, place, budget, run.len(), work);
     let mut n: usize = 0;
@@ -51,7 +53,8 @@ fn capped(room: usize) -> usize
 
 // A listing call with a run of its own, of records that are zero: for callers that hold no slice of records.
 pub fn list_filled(cat: &[u8], place: u32, budget: u32, room: usize, work: &mut [u32]) -> Filled
-    ensures { λ r. ⌜ FilledBy (now (cat .entry)) place budget room (now (work .entry)) (r .answer) (r .run) (now (work .exit)) ⌝ }
+    ensures { λ r. ⌜ FilledBy (now (cat .entry)) place budget room (now (work .entry)) (r .answer) (r .run)
+        (now (work .exit)) ⌝ }
 {
     let mut run = [Entry {
         target: 0,

@@ -1,5 +1,5 @@
--- What a reader owns, and what is had of its fields beside it: a reader is Copy, so its fields can be lent to a call and the reader kept
--- whole for the exit. Assumes `Given`.
+-- What a reader owns, and what is had of its fields beside it: a reader is Copy, so its fields can be lent to a call
+-- and the reader kept whole for the exit. Assumes `Given`.
 use mathlib.Core.Path.{_≡_}
 use mathlib.Core.List.{List, [], _∷_}
 use lib.Dec.{T as Holds}
@@ -73,8 +73,11 @@ module _ (κ : Lft) (d : Reader) where
     pub shares-fields : ent 𝓤 (sem 𝓤 H A readerOwn) (sep 𝓤 (sem 𝓤 H A readerOwn) (sem 𝓤 H A fieldsOwn))
     shares-fields =
         qed W (‵ readerOwn ∷ []) ∵
-        use1 W (‵ readerOwn ⊛ ‵ readerOwn) (struct.copy readerType (T′.the-copy (namedLft 1 0 tt (κ, tt))) 𝓤 H A W .twice d (readerVal ∷ [])) $ split ! $ frame ! $
-        use1 W (given (readerVal ∷ [] ≡ readerVal ∷ []) (‵ fieldsOwn)) (own-open 𝓤 H A W readerType readerLaws readerFields readerVal) $ learn ! (λ _. done !)
+        use1 W (‵ readerOwn ⊛ ‵ readerOwn)
+        (struct.copy readerType (T′.the-copy (namedLft 1 0 tt (κ, tt))) 𝓤 H A W .twice d (readerVal ∷ [])) $
+        split ! $ frame ! $
+        use1 W (given (readerVal ∷ [] ≡ readerVal ∷ []) (‵ fieldsOwn))
+        (own-open 𝓤 H A W readerType readerLaws readerFields readerVal) $ learn ! (λ _. done !)
 
     -- what is known of its value and of its answer's
     module _ (p : Is (readerRow (κ, tt)) d (readerVal ∷ [])) where
@@ -85,4 +88,5 @@ module _ (κ : Lft) (d : Reader) where
       answer-is = struct.owed readerType readerLaws d (readerVal ∷ []) p .1 .1 .0
 
       pub answer-typed : Holds (hasTy O′.mir (answerVal (d .answer))) × WT (answerVal (d .answer))
-      answer-typed = enum.lawful O.the-type O′.the-laws 𝓤 H A W tt .typed (d .answer) (answerVal (d .answer) ∷ []) answer-is .0
+      answer-typed =
+          enum.lawful O.the-type O′.the-laws 𝓤 H A W tt .typed (d .answer) (answerVal (d .answer) ∷ []) answer-is .0

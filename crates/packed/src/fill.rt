@@ -1,5 +1,5 @@
-// Reading from an index on into a lent run of records: `planned` decides everything and looks at no record, `read` stores
-// the entries. Called by `host`.
+// Reading from an index on into a lent run of records: `planned` decides everything and looks at no record, `read`
+// stores the entries. Called by `host`.
 ghost use mathlib.Core.Path.{_≡_};
 ghost use lib.ListN.{length};
 ghost use Rattle.model.specs.Reply.{entriesReply};
@@ -31,8 +31,8 @@ pub fn planned(file: &[u8], from: usize, room: usize) -> Plan
     }
 }
 
-// Reads the entries from an index on into the run, as many as it has records, and answers how many: none behind the last
-// entry. The other records stay as they were, and all of them after a refusal.
+// Reads the entries from an index on into the run, as many as it has records, and answers how many: none behind the
+// last entry. The other records stay as they were, and all of them after a refusal.
 pub fn read(file: &[u8], from: usize, run: &mut [Entry]) -> EntriesAnswer
     ensures { λ r. ⌜ (entriesReply r ≡ readMeaning (now (file .entry)) from (length (now (run .entry))))
         × (now (run .exit) ≡ runRead (now (file .entry)) from (now (run .entry))) ⌝ }

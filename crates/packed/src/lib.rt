@@ -1,8 +1,9 @@
-// Packed lists: entries packed into bytes and read back, behind any bytes in front. In order: whether a file may be read, and the part in front
-// (`open`, `front`); a reading entry by entry (`Reader`: `start`, `opened`, `next`, `advance`, `front_of`); packing (`pack`).
-// In `fill`, reading into a lent run of records (`read`). A file that `open` refuses gives the refusal, 'end' and no byte in front, never an
-// entry.
-// Relies on the definitions of `model`, on `entries` for 15, and on `unpacking` and `packing` for all that needs no run of records and no reader.
+// Packed lists: entries packed into bytes and read back, behind any bytes in front. In order: whether a file may be
+// read, and the part in front (`open`, `front`); a reading entry by entry (`Reader`: `start`, `opened`, `next`,
+// `advance`, `front_of`); packing (`pack`). In `fill`, reading into a lent run of records (`read`). A file that
+// `open` refuses gives the refusal, 'end' and no byte in front, never an entry.
+// Relies on the definitions of `model`, on `entries` for 15, and on `unpacking` and `packing` for all that needs no
+// run of records and no reader.
 // Called by hosts and programs.
 mod fill;
 
@@ -62,7 +63,8 @@ pub fn front(file: &[u8]) -> &[u8]
     front_by(file, answer)
 }
 
-// A reading of a packed list, entry by entry over the lent file: the file, the position of the entry that comes next, and what `open` answers.
+// A reading of a packed list, entry by entry over the lent file: the file, the position of the entry that comes next,
+// and what `open` answers.
 pub struct Reader<'a> {
     list: &'a [u8],
     at: u32,
@@ -114,10 +116,11 @@ pub fn front_of<'a>(r: Reader<'a>) -> &'a [u8]
     front_by(r.list, r.answer)
 }
 
-// Packs entries into an output: 15 entry by entry, then 16. It writes the list from the output's start and answers how many bytes that is;
-// a refusal writes nothing.
+// Packs entries into an output: 15 entry by entry, then 16. It writes the list from the output's start and answers
+// how many bytes that is; a refusal writes nothing.
 pub fn pack(entries: &[Entry], out: &mut [u8]) -> PackAnswer
-    ensures { λ r. ⌜ (packReply r ≡ packMeaning (now (entries .entry)) (length (now (out .entry)))) × (now (out .exit) ≡ outputAfter (now (entries .entry)) (now (out .entry))) ⌝ }
+    ensures { λ r. ⌜ (packReply r ≡ packMeaning (now (entries .entry)) (length (now (out .entry))))
+        × (now (out .exit) ≡ outputAfter (now (entries .entry)) (now (out .entry))) ⌝ }
 {
     let k = entries.len();
     let mut s = begin_checks(k, out);

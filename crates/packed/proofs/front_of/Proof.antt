@@ -1,5 +1,6 @@
--- `packed::front_of` meets its contract: a walk of its MIR, by hand. The reader is taken apart, and `front` is called on its file, whose part
--- it hands back. All that the proof knows of `front` is that it meets its contract. Assumes nothing.
+-- `packed::front_of` meets its contract: a walk of its MIR, by hand. The reader is taken apart, and `front` is called
+-- on its file, whose part it hands back. All that the proof knows of `front` is that it meets its contract. Assumes
+-- nothing.
 use mathlib.Core.Path.{_≡_, refl}
 use Prim.Native.Nat.{ℕ}
 use mathlib.Core.List.{List, [], _∷_}
@@ -38,7 +39,8 @@ use Rattle.packed.specs.Reading.{frontHeld}
 use Rattle.packed.specs.declared.Reader.{Reader}
 use Rattle.lent.proofs.Walk.{full, _◂_, leaves, met}
 use Rattle.lent.proofs.Called.{Callee, calls}
-use Rattle.packed.proofs.Held.{readerRow, readerVals, reader-tells, answerVal, readerVal, fileVal, readerOwn, fieldsOwn, shares-fields, reader-typed, answer-typed}
+use Rattle.packed.proofs.Held.{readerRow, readerVals, reader-tells, answerVal, readerVal, fileVal, readerOwn}
+use Rattle.packed.proofs.Held.{fieldsOwn, shares-fields, reader-typed, answer-typed}
 use Rattle.unpacking.proofs.front_by as callee
 use Rattle.unpacking.proofs.front_by.Symbol as callee-def
 use Rattle.unpacking.proofs.front_by.Met as callee-thm
@@ -54,7 +56,8 @@ stayed = (stay-none readerRow yes, tt)
 abbrev sliceOf : RefT (List ℕ) → Val
 sliceOf = λ s. sliceVal (ptr s) (length (now s))
 
-module _ {M : Type 1} (𝓤 : URA M) (H : Heap 𝓤) (A : Atoms 𝓤) (W : Given 𝓤 H A) (mem : Memory → SProp 𝓤) (run : Routine → Fun 𝓤) (κ : Lft) (q : Share) (d : Reader) where
+module _ {M : Type 1} (𝓤 : URA M) (H : Heap 𝓤) (A : Atoms 𝓤) (W : Given 𝓤 H A) (mem : Memory → SProp 𝓤)
+    (run : Routine → Fun 𝓤) (κ : Lft) (q : Share) (d : Reader) where
   abbrev mach : Val
   mach = readerVal κ d
 
@@ -75,23 +78,32 @@ module _ {M : Type 1} (𝓤 : URA M) (H : Heap 𝓤) (A : Atoms 𝓤) (W : Given
   to = (((κ, tt), (q, tt), tt, (d .list, (d .answer, tt)), passed), tt)
 
   exits : (r : RefT (List ℕ)) (u : Val) → Found r
-      → ent 𝓤 (⋆ 𝓤 H A (‵ (ShrSlice (named 0) κ u8 .own r (u ∷ [])) ∷ (‵ (flft κ q) ⊛ ‵ ftrue) ∷ ‵ (readerOwn κ d) ∷ ‵ ftrue ∷ [])) (Post u)
+      → ent 𝓤 (⋆ 𝓤 H A (‵ (ShrSlice (named 0) κ u8 .own r (u ∷ [])) ∷ (‵ (flft κ q) ⊛ ‵ ftrue) ∷ ‵ (readerOwn κ d)
+      ∷ ‵ ftrue ∷ [])) (Post u)
   exits r u e =
-      qed W (‵ (ShrSlice (named 0) κ u8 .own r (u ∷ [])) ∷ (‵ (flft κ q) ⊛ ‵ ftrue) ∷ ‵ (readerOwn κ d) ∷ ‵ ftrue ∷ []) ∵
-      suffices ! _ (ends-at 𝓤 H A front-of.ended stayed (front-of.clauses 𝓤 H A mem run) W bound u r (tt, tt) (tt, tt)) $ says ! e $
+      qed W (‵ (ShrSlice (named 0) κ u8 .own r (u ∷ [])) ∷ (‵ (flft κ q) ⊛ ‵ ftrue) ∷ ‵ (readerOwn κ d) ∷ ‵ ftrue
+      ∷ []) ∵
+      suffices ! _ (ends-at 𝓤 H A front-of.ended stayed (front-of.clauses 𝓤 H A mem run) W bound u r (tt, tt)
+      (tt, tt)) $ says ! e $
       move ! (1 ∷ []) $ frame ! $ move ! (1 ∷ 2 ∷ []) $ fjoin ! $ frame ! $ done !
 
   module _ (C : Calls 𝓤 H) (Λ : Loops 𝓤 H) (fm : FmC 𝓤 H (W .laws) C)
       (known : Triple 𝓤 (C callee-def.name) (Callee 𝓤 H A callee.ended (callee.clauses 𝓤 H A mem run))) where
     walk : Is (readerRow (κ, tt)) d (mach ∷ [])
-        → ent 𝓤 (onEntry 𝓤 H A front-of.signature (κ, tt) (q, tt) (d, tt) (mach ∷ [], tt)) (WpFn 𝓤 H C Λ code.function (mach ∷ []) Post)
+        → ent 𝓤 (onEntry 𝓤 H A front-of.signature (κ, tt) (q, tt) (d, tt) (mach ∷ [], tt))
+        (WpFn 𝓤 H C Λ code.function (mach ∷ []) Post)
     walk p =
-        qed W ((‵ (flft κ q) ⊛ ‵ ftrue) ∷ ‵ (owns (readerRow (κ, tt) ∷ []) (d, tt) (mach ∷ [], tt)) ∷ []) ∵ enter ! C Λ code.function (mach ∷ []) _ $
-        alloc1 ! (λ l₀. alloc1 ! (λ l₁. alloc1 ! (λ l₂. alloc1 ! (λ l₃. alloc0 ! $ params1 ! $ pass1 ! (init ! 4 refl (reader-typed κ d 𝓤 H A W p)) $ pass0 ! $
-        assigns ! (of-opd ! (load ! (from ! (fld ! refl (stop !))) (look-in ! 4 (sub ! 0 refl (whole !))))) (from ! (stop !)) (init ! 2 refl (tt, reader-typed κ d 𝓤 H A W p .1 .0)) $
-        assigns ! (of-opd ! (load ! (from ! (fld ! refl (stop !))) (look-in ! 4 (sub ! 2 refl (whole !))))) (from ! (stop !)) (init ! 0 refl (answer-typed κ d 𝓤 H A W p)) $
+        qed W ((‵ (flft κ q) ⊛ ‵ ftrue) ∷ ‵ (owns (readerRow (κ, tt) ∷ []) (d, tt) (mach ∷ [], tt)) ∷ []) ∵
+        enter ! C Λ code.function (mach ∷ []) _ $
+        alloc1 ! (λ l₀. alloc1 ! (λ l₁. alloc1 ! (λ l₂. alloc1 ! (λ l₃. alloc0 ! $ params1 ! $
+        pass1 ! (init ! 4 refl (reader-typed κ d 𝓤 H A W p)) $ pass0 ! $
+        assigns ! (of-opd ! (load ! (from ! (fld ! refl (stop !))) (look-in ! 4 (sub ! 0 refl (whole !)))))
+        (from ! (stop !)) (init ! 2 refl (tt, reader-typed κ d 𝓤 H A W p .1 .0)) $
+        assigns ! (of-opd ! (load ! (from ! (fld ! refl (stop !))) (look-in ! 4 (sub ! 2 refl (whole !)))))
+        (from ! (stop !)) (init ! 0 refl (answer-typed κ d 𝓤 H A W p)) $
         -- [the locals; the token; what the reader owns]
-        move ! (9 ∷ []) $ fsplit ! $ use1 W (‵ (readerOwn κ d) ⊛ ‵ (fieldsOwn κ d)) (shares-fields κ d 𝓤 H A W) $ split ! $ move ! (11 ∷ 1 ∷ []) $
+        move ! (9 ∷ []) $ fsplit ! $ use1 W (‵ (readerOwn κ d) ⊛ ‵ (fieldsOwn κ d)) (shares-fields κ d 𝓤 H A W) $
+        split ! $ move ! (11 ∷ 1 ∷ []) $
         move ! (1 ∷ []) $ fsplit ! $ move ! (1 ∷ []) $ fsplit ! $ drop ! $ move ! (1 ∷ []) $ fjoin ! $ move ! (1 ∷ []) $
         -- [the token; what the callee is passed; what the reader owns; nothing; the locals]
         calls ! fm callee.ended (callee.clauses 𝓤 H A mem run) known to (id⊢ 𝓤 (emp 𝓤))
@@ -108,7 +120,8 @@ module _ {M : Type 1} (𝓤 : URA M) (H : Heap 𝓤) (A : Atoms 𝓤) (W : Given
         by ! (exits r (sliceOf r) (hands .ensured)))
         ))))
 
-module _ {M : Type 1} (𝓤 : URA M) (H : Heap 𝓤) (A : Atoms 𝓤) (W : Given 𝓤 H A) (mem : Memory → SProp 𝓤) (run : Routine → Fun 𝓤) where
+module _ {M : Type 1} (𝓤 : URA M) (H : Heap 𝓤) (A : Atoms 𝓤) (W : Given 𝓤 H A) (mem : Memory → SProp 𝓤)
+    (run : Routine → Fun 𝓤) where
   meets : (𝓣 : Tables 𝓤 H) → Triple 𝓤 (𝓣 .C callee-def.name) (Callee 𝓤 H A callee.ended (callee.clauses 𝓤 H A mem run))
       → Meets 𝓤 H A front-of.signature (WpFn 𝓤 H (𝓣 .C) (𝓣 .Λ) code.function) (front-of.spec 𝓤 H A mem run)
   meets 𝓣 known =

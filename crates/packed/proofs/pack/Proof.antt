@@ -1,10 +1,11 @@
--- `packed::pack` meets its contract: a walk of its MIR, by hand. The output is opened once, before the loop, and shut once, before the return;
--- in between it is lent on for each call. An entry is read where the run is looked into.
+-- `packed::pack` meets its contract: a walk of its MIR, by hand. The output is opened once, before the loop, and shut
+-- once, before the return; in between it is lent on for each call. An entry is read where the run is looked into.
 --     At t       the whole context before a turn, where t is the state, the output and the facts about them
 --     goes-on    a turn that passes an entry: it ends nearer, in the state that `step` answered
 --     ends       the turn that leaves: the output is shut, and the answer is returned
 --     walk       the code up to the loop
--- What `begin_checks` and `step` say is not looked into: every fact about it is cited from `Progress.antt`. Assumes nothing.
+-- What `begin_checks` and `step` say is not looked into: every fact about it is cited from `Progress.antt`. Assumes
+-- nothing.
 use mathlib.Core.Path.{_≡_, refl, sym}
 use Prim.Native.Nat.{ℕ, _*_, _<_, _^_}
 use native.Mathlib.Omega.{arith}
@@ -135,8 +136,10 @@ is-false : (t : Bool) → T (not t) → t ≡ false
 is-false true h = absurd h
 is-false false h = refl
 
-module _ {M : Type 1} (𝓤 : URA M) (H : Heap 𝓤) (A : Atoms 𝓤) (W : Given 𝓤 H A) (mem : Memory → SProp 𝓤) (run : Routine → Fun 𝓤)
-    (κ₀ κ₁ : Lft) (q₀ q₁ : Share) (b₀ o₀ : ℕ) (γ₀ : GName) (es : List Entry) (b₁ o₁ : ℕ) (γ₁ : GName) (out₀ : List ℕ) where
+module _ {M : Type 1} (𝓤 : URA M) (H : Heap 𝓤) (A : Atoms 𝓤) (W : Given 𝓤 H A) (mem : Memory → SProp 𝓤)
+    (run : Routine → Fun 𝓤)
+    (κ₀ κ₁ : Lft) (q₀ q₁ : Share) (b₀ o₀ : ℕ) (γ₀ : GName) (es : List Entry) (b₁ o₁ : ℕ) (γ₁ : GName)
+    (out₀ : List ℕ) where
   abbrev k : ℕ
   k = length es
 
@@ -228,24 +231,29 @@ module _ {M : Type 1} (𝓤 : URA M) (H : Heap 𝓤) (A : Atoms 𝓤) (W : Given
   Nearer-wf : WellFounded Nearer
   Nearer-wf = InvImage·wf (λ (t : State). steps k (t .0)) (Nat·lt-wfRel .wf)
 
-  exits : (s : Packing) (out : List ℕ) → Stands es out₀ s out → s .going ≡ false → Is L.the-row (s .answer) (answerVal (s .answer) ∷ [])
-      → ent 𝓤 (⋆ 𝓤 H A (‵ (outOwn out) ∷ ‵ (flft κ₁ q₁) ∷ ‵ entriesOwn ∷ ‵ (flft κ₀ q₀) ∷ [])) (Post (answerVal (s .answer)))
+  exits : (s : Packing) (out : List ℕ) → Stands es out₀ s out → s .going ≡ false
+      → Is L.the-row (s .answer) (answerVal (s .answer) ∷ [])
+      → ent 𝓤 (⋆ 𝓤 H A (‵ (outOwn out) ∷ ‵ (flft κ₁ q₁) ∷ ‵ entriesOwn ∷ ‵ (flft κ₀ q₀) ∷ []))
+      (Post (answerVal (s .answer)))
   exits s out known stopped is =
       qed W (‵ (outOwn out) ∷ ‵ (flft κ₁ q₁) ∷ ‵ entriesOwn ∷ ‵ (flft κ₀ q₀) ∷ []) ∵
-      suffices ! _ (ends-at 𝓤 H A pack.ended stayed (pack.clauses 𝓤 H A mem run) W bound (answerVal (s .answer)) (s .answer)
+      suffices ! _ (ends-at 𝓤 H A pack.ended stayed (pack.clauses 𝓤 H A mem run) W bound (answerVal (s .answer))
+      (s .answer)
       (tt, (out, tt)) (tt, (known .long, tt))) $
       says ! (stands-last es out₀ s out known stopped) $
       nothing ! $ move ! (2 ∷ 0 ∷ []) $ join ! $ move ! (3 ∷ 0 ∷ []) $ join ! $ frame ! $
       nothing ! $ move ! (1 ∷ 0 ∷ []) $ fjoin ! $ move ! (1 ∷ 0 ∷ []) $ fjoin ! $ frame ! $
       owned ! L.the-row (Is L.the-row) (enum.makes L.the-type L′.the-plain 𝓤 H A) (s .answer) _ is $ done !
 
-  entry-typed : (e : Entry) → Is R.the-row e (entryVals e) → T (hasTy R′.mir (struct.val R.the-type R′.the-laws e)) × WT (struct.val R.the-type R′.the-laws e)
+  entry-typed : (e : Entry) → Is R.the-row e (entryVals e) → T (hasTy R′.mir (struct.val R.the-type R′.the-laws e))
+      × WT (struct.val R.the-type R′.the-laws e)
   entry-typed e is = struct.lawful R.the-type R′.the-laws 𝓤 H A W .typed e (entryVals e) is .0
 
   pack-typed : (s : Packing) (v : Val) → Is P.the-row s (v ∷ []) → T (hasTy P′.mir v) × WT v
   pack-typed s v is = struct.lawful P.the-type P′.the-laws 𝓤 H A W .typed s (v ∷ []) is .0
 
-  answer-typed : (a : PackAnswer) → Is L.the-row a (answerVal a ∷ []) → T (hasTy L′.mir (answerVal a)) × WT (answerVal a)
+  answer-typed : (a : PackAnswer) → Is L.the-row a (answerVal a ∷ []) → T (hasTy L′.mir (answerVal a))
+      × WT (answerVal a)
   answer-typed a is = enum.lawful L.the-type L′.the-laws 𝓤 H A W tt .typed a (answerVal a ∷ []) is .0
 
   module _ (𝓣 : Tables 𝓤 H) (known-start : Triple 𝓤 (𝓣 .C start-def.name)
@@ -278,15 +286,19 @@ module _ {M : Type 1} (𝓤 : URA M) (H : Heap 𝓤) (A : Atoms 𝓤) (W : Given
       -- the locals before a turn, where the entry that was read and the state may be there or not
       abbrev Locals : List (Item 𝓤) → List (Item 𝓤) → List (Item 𝓤)
       Locals entry state =
-          room (sliceTy lentRef) l₁₄ (room lentRef l₁₃ (room R′.mir l₁₂ (room tyPtr l₁₁ (room (tyInt w64) l₁₀ (room tyBool l₉
+          room (sliceTy lentRef) l₁₄
+          (room lentRef l₁₃ (room R′.mir l₁₂ (room tyPtr l₁₁ (room (tyInt w64) l₁₀ (room tyBool l₉
           (room (sliceTy lentRef) l₈ (room lentRef l₇ (entry ++ room (tyInt w64) l₅ (state ++
-          holds (tyInt w64) l₃ (vint w64 k) (holds outTy l₂ outVal (holds entriesTy l₁ entriesVal (room L′.mir l₀ []))))))))))))
+          holds (tyInt w64) l₃ (vint w64 k)
+          (holds outTy l₂ outVal (holds entriesTy l₁ entriesVal (room L′.mir l₀ []))))))))))))
 
       -- the locals at the start
       abbrev Before : List (Item 𝓤)
       Before =
-          room (sliceTy lentRef) l₁₄ (room lentRef l₁₃ (room R′.mir l₁₂ (room tyPtr l₁₁ (room (tyInt w64) l₁₀ (room tyBool l₉
-          (room (sliceTy lentRef) l₈ (room lentRef l₇ (room R′.mir l₆ (room (tyInt w64) l₅ (room P′.mir l₄ (room (tyInt w64) l₃
+          room (sliceTy lentRef) l₁₄
+          (room lentRef l₁₃ (room R′.mir l₁₂ (room tyPtr l₁₁ (room (tyInt w64) l₁₀ (room tyBool l₉
+          (room (sliceTy lentRef) l₈
+          (room lentRef l₇ (room R′.mir l₆ (room (tyInt w64) l₅ (room P′.mir l₄ (room (tyInt w64) l₃
           (holds outTy l₂ outVal (holds entriesTy l₁ entriesVal (room L′.mir l₀ []))))))))))))))
 
       abbrev noEntry : List (Item 𝓤)
@@ -301,17 +313,23 @@ module _ {M : Type 1} (𝓤 : URA M) (H : Heap 𝓤) (A : Atoms 𝓤) (W : Given
 
       -- where a turn ends: nearer, or out of the function
       abbrev Turned : State → Out → SProp 𝓤
-      Turned t = afterTurn 𝓤 H (Below 𝓤 H A Nearer At t) (afterBlock 𝓤 H (afterSeq 𝓤 H (Wp 𝓤 H C Λ E mir.t-6 (atReturn 𝓤 H E Post)) (atReturn 𝓤 H E Post)))
+      Turned t = afterTurn 𝓤 H (Below 𝓤 H A Nearer At t)
+          (afterBlock 𝓤 H (afterSeq 𝓤 H (Wp 𝓤 H C Λ E mir.t-6 (atReturn 𝓤 H E Post)) (atReturn 𝓤 H E Post)))
 
       -- the call of `step` with the entry that was read
-      steps-on : (s : Packing) (out : List ℕ) (known : Stands es out₀ s out) (is : Is P.the-row s (packVals s)) → s .going ≡ true
-          → Is R.the-row (getD es (s .at) zeros) (entryVals (getD es (s .at) zeros))
-          → Sq W (‵ (outRow out) ∷ ‵ entriesOwn ∷ ‵ (flft κ₀ q₀) ∷ ‵ outShuts ∷ Locals (holds R′.mir l₆ (struct.val R.the-type R′.the-laws (getD es (s .at) zeros)) []) (stateAt s))
+      steps-on : (s : Packing) (out : List ℕ) (known : Stands es out₀ s out) (is : Is P.the-row s (packVals s))
+          → s .going ≡ true → Is R.the-row (getD es (s .at) zeros) (entryVals (getD es (s .at) zeros))
+          → Sq W (‵ (outRow out) ∷ ‵ entriesOwn ∷ ‵ (flft κ₀ q₀) ∷ ‵ outShuts
+          ∷ Locals (holds R′.mir l₆ (struct.val R.the-type R′.the-laws (getD es (s .at) zeros)) []) (stateAt s))
           (runs C Λ E stepping (anyQ (Turned (s, out, known, is))))
       unfolding afterTurn
       steps-on s out known is going is-e =
-          assigns ! (addr ! (from ! (fld ! refl (hop ! (look-in ! 28 (sub ! 0 refl (whole !))) (stop !))))) (from ! (stop !)) (init ! 6 refl (tt, tt)) $
-          assigns ! (agg ! (and-then ! (load ! (from ! (stop !)) (look ! 6 refl)) (and-then ! (load ! (from ! (fld ! refl (stop !))) (look-in ! 28 (sub ! 1 refl (whole !)))) (no-more !)))) (from ! (stop !)) (init ! 4 refl (tt, (tt, (record { fits = go .0 }, tt)))) $
+          assigns ! (addr ! (from ! (fld ! refl (hop ! (look-in ! 28 (sub ! 0 refl (whole !))) (stop !)))))
+          (from ! (stop !)) (init ! 6 refl (tt, tt)) $
+          assigns !
+          (agg ! (and-then ! (load ! (from ! (stop !)) (look ! 6 refl))
+          (and-then ! (load ! (from ! (fld ! refl (stop !))) (look-in ! 28 (sub ! 1 refl (whole !)))) (no-more !))))
+          (from ! (stop !)) (init ! 4 refl (tt, (tt, (record { fits = go .0 }, tt)))) $
           -- the output is lent for the call
           lft-new ! tt (λ ν. move ! (1 ∷ []) $
           use1 W (later (some (λ (δ : GName). ‵ (outLent ν δ out) ⊛ ‵ (lent.Lending u8 b₁ o₁ (ν ∷ []) δ out))))
@@ -356,34 +374,49 @@ module _ {M : Type 1} (𝓤 : URA M) (H : Heap 𝓤) (A : Atoms 𝓤) (W : Given
       near s out known going = offset-fits (s .at) k (inside s out known going) (ge .1)
 
       -- a turn that passes an entry
-      goes-on : (s : Packing) (out : List ℕ) (known : Stands es out₀ s out) (is : Is P.the-row s (packVals s)) (going : s .going ≡ true)
+      goes-on : (s : Packing) (out : List ℕ) (known : Stands es out₀ s out) (is : Is P.the-row s (packVals s))
+          (going : s .going ≡ true)
           → Sq W (At (s, out, known, is)) (runs C Λ E passing (anyQ (Turned (s, out, known, is))))
       unfolding afterTurn
       goes-on s out known is going =
-          assigns ! (of-opd ! (load ! (from ! (fld ! refl (stop !))) (look-in ! 24 (sub ! 2 refl (whole !))))) (from ! (stop !)) (init ! 22 refl (tt, record { fits = index-fits s is })) $
-          assigns ! (bin ! (load ! (from ! (stop !)) (look ! 22 refl)) (lit ! tt) (record { fits = near s out known going })) (from ! (stop !)) (init ! 12 refl (tt, record { fits = near s out known going })) $
-          assigns ! (bin ! (load ! (from ! (fld ! refl (stop !))) (look-in ! 30 (sub ! 0 refl (whole !)))) (load ! (from ! (stop !)) (look ! 12 refl)) tt) (from ! (stop !)) (init ! 10 refl (tt, tt)) $
+          assigns ! (of-opd ! (load ! (from ! (fld ! refl (stop !))) (look-in ! 24 (sub ! 2 refl (whole !)))))
+          (from ! (stop !)) (init ! 22 refl (tt, record { fits = index-fits s is })) $
+          assigns ! (bin ! (load ! (from ! (stop !)) (look ! 22 refl)) (lit ! tt)
+          (record { fits = near s out known going })) (from ! (stop !))
+          (init ! 12 refl (tt, record { fits = near s out known going })) $
+          assigns ! (bin ! (load ! (from ! (fld ! refl (stop !))) (look-in ! 30 (sub ! 0 refl (whole !))))
+          (load ! (from ! (stop !)) (look ! 12 refl)) tt) (from ! (stop !)) (init ! 10 refl (tt, tt)) $
           rewrite ! 10 (λ (p : ℕ). ‵ (fat fullShare tyPtr l₁₁ 0 (vptr b₀ p))) (sym (place-is 4 o₀ (s .at))) refl $
           -- the run is looked into
           move ! (1 ∷ []) $ fsplit ! $ move ! (1 ∷ []) $ fsplit ! $ move ! (1 ∷ 4 ∷ []) $
-          looks-slice ! tt R.the-row (Is R.the-row) (shows 𝓤 H A R.the-row) entryVals (struct.tells R.the-type R′.the-laws) (struct.copy R.the-type R′.the-copy 𝓤 H A W) es b₀ o₀ (λ q′.
-          elem-out ! R.the-row (Is R.the-row) (shows 𝓤 H A R.the-row) entryVals (struct.tells R.the-type R′.the-laws) q′ es (s .at) zeros b₀ o₀ (inside s out known going) (λ is-e.
-          -- [the entry; what it owns; the others; what shuts the run; the borrow; its room; its facts; the output's bytes; what shuts it; the locals]
-          assigns ! (of-opd ! (load ! (from ! (hop ! (look ! 15 refl) (stop !))) (look-raw ! 0 refl))) (from ! (stop !)) (init ! 13 refl (entry-typed _ is-e)) $
-          assigns ! (of-opd ! (load ! (from ! (stop !)) (look ! 13 refl))) (from ! (stop !)) (init ! 25 refl (entry-typed _ is-e)) $
-          elem-back ! R.the-row q′ es (s .at) zeros (entryVals (getD es (s .at) zeros)) b₀ o₀ (inside s out known going) $ shuts-slice ! tt R.the-row q′ es b₀ o₀ $
+          looks-slice ! tt R.the-row (Is R.the-row) (shows 𝓤 H A R.the-row) entryVals
+          (struct.tells R.the-type R′.the-laws) (struct.copy R.the-type R′.the-copy 𝓤 H A W) es b₀ o₀ (λ q′.
+          elem-out ! R.the-row (Is R.the-row) (shows 𝓤 H A R.the-row) entryVals (struct.tells R.the-type R′.the-laws) q′
+          es (s .at) zeros b₀ o₀ (inside s out known going) (λ is-e.
+          -- [the entry; what it owns; the others; what shuts the run; the borrow; its room; its facts; the output's
+          -- bytes; what shuts it; the locals]
+          assigns ! (of-opd ! (load ! (from ! (hop ! (look ! 15 refl) (stop !))) (look-raw ! 0 refl))) (from ! (stop !))
+          (init ! 13 refl (entry-typed _ is-e)) $
+          assigns ! (of-opd ! (load ! (from ! (stop !)) (look ! 13 refl))) (from ! (stop !))
+          (init ! 25 refl (entry-typed _ is-e)) $
+          elem-back ! R.the-row q′ es (s .at) zeros (entryVals (getD es (s .at) zeros)) b₀ o₀
+          (inside s out known going) $ shuts-slice ! tt R.the-row q′ es b₀ o₀ $
           -- [the token; the borrow; its room; its facts; the output's bytes; what shuts it; the locals]
-          move ! (2 ∷ 1 ∷ []) $ fjoin ! $ move ! (2 ∷ 0 ∷ []) $ fjoin ! $ move ! (2 ∷ 0 ∷ 1 ∷ []) $ forget ! 22 refl $ forget ! 12 refl $ forget ! 10 refl $ forget ! 8 refl $
+          move ! (2 ∷ 1 ∷ []) $ fjoin ! $ move ! (2 ∷ 0 ∷ []) $ fjoin ! $ move ! (2 ∷ 0 ∷ 1 ∷ []) $ forget ! 22 refl $
+          forget ! 12 refl $ forget ! 10 refl $ forget ! 8 refl $
           steps-on s out known is going is-e))
 
       turns : (t : State) → Sq W (At t) (runs C Λ E mir.turn-1 (anyQ (Turned t)))
       unfolding afterTurn
       turns t =
-          assigns ! (of-opd ! (load ! (from ! (fld ! refl (stop !))) (look-in ! 24 (sub ! 0 refl (whole !))))) (from ! (stop !)) (init ! 14 refl (tt, tt)) $
+          assigns ! (of-opd ! (load ! (from ! (fld ! refl (stop !))) (look-in ! 24 (sub ! 0 refl (whole !)))))
+          (from ! (stop !)) (init ! 14 refl (tt, tt)) $
           first ! $ branches ! (load ! (from ! (stop !)) (look ! 14 refl))
-          (λ y. skips ! $ exec ! C Λ E passing (anyQ (Turned t)) $ forget ! 14 refl $ goes-on (t .0) (t .1) (t .2) (t .3) (is-true (t .0 .going) y))
+          (λ y. skips ! $ exec ! C Λ E passing (anyQ (Turned t)) $ forget ! 14 refl $
+          goes-on (t .0) (t .1) (t .2) (t .3) (is-true (t .0 .going) y))
           (λ z. jumps ! $ exec ! C Λ E mir.t-6 (atRet E Post) $
-          assigns ! (of-opd ! (load ! (from ! (fld ! refl (stop !))) (look-in ! 24 (sub ! 4 refl (whole !))))) (from ! (stop !)) (init ! 32 refl (answer-typed (t .0 .answer) (answer-is (t .0) (t .3)))) $
+          assigns ! (of-opd ! (load ! (from ! (fld ! refl (stop !))) (look-in ! 24 (sub ! 4 refl (whole !)))))
+          (from ! (stop !)) (init ! 32 refl (answer-typed (t .0 .answer) (answer-is (t .0) (t .3)))) $
           move ! (0 ∷ 3 ∷ []) $ use2 W (later (‵ (outOwn (t .1)) ⊛ ‵ (flft κ₁ q₁)))
           (lent.shuts u8 b₁ o₁ 𝓤 H A W (named 1) κ₁ q₁ γ₁ out₀ (t .1) go (t .2 .long)) $ await ! tt $ split ! $
           -- [the output; its token; the entries; their token; the locals]
@@ -392,12 +425,18 @@ module _ {M : Type 1} (𝓤 : URA M) (H : Heap 𝓤) (A : Atoms 𝓤) (W : Given
           by ! (exits (t .0) (t .1) (t .2) (is-false (t .0 .going) z) (answer-is (t .0) (t .3))))
 
       -- the code up to the loop, with the output open
-      begin-checks : Sq W (‵ (outRow out₀) ∷ ‵ entriesOwn ∷ ‵ (flft κ₀ q₀) ∷ ‵ outShuts ∷ Before) (runs C Λ E mir.t-1 (atRet E Post))
+      begin-checks : Sq W (‵ (outRow out₀) ∷ ‵ entriesOwn ∷ ‵ (flft κ₀ q₀) ∷ ‵ outShuts ∷ Before)
+          (runs C Λ E mir.t-1 (atRet E Post))
       begin-checks =
           -- [the output's bytes; the entries; their token; what shuts the output; the locals]
-          assigns ! (of-opd ! (load ! (from ! (fld ! refl (stop !))) (look-in ! 30 (sub ! 1 refl (whole !))))) (from ! (stop !)) (init ! 26 refl (tt, record { fits = ge .0 })) $
-          assigns ! (addr ! (from ! (fld ! refl (hop ! (look-in ! 28 (sub ! 0 refl (whole !))) (stop !))))) (from ! (stop !)) (init ! 18 refl (tt, tt)) $
-          assigns ! (agg ! (and-then ! (load ! (from ! (stop !)) (look ! 18 refl)) (and-then ! (load ! (from ! (fld ! refl (stop !))) (look-in ! 28 (sub ! 1 refl (whole !)))) (no-more !)))) (from ! (stop !)) (init ! 16 refl (tt, (tt, (record { fits = go .0 }, tt)))) $
+          assigns ! (of-opd ! (load ! (from ! (fld ! refl (stop !))) (look-in ! 30 (sub ! 1 refl (whole !)))))
+          (from ! (stop !)) (init ! 26 refl (tt, record { fits = ge .0 })) $
+          assigns ! (addr ! (from ! (fld ! refl (hop ! (look-in ! 28 (sub ! 0 refl (whole !))) (stop !)))))
+          (from ! (stop !)) (init ! 18 refl (tt, tt)) $
+          assigns !
+          (agg ! (and-then ! (load ! (from ! (stop !)) (look ! 18 refl))
+          (and-then ! (load ! (from ! (fld ! refl (stop !))) (look-in ! 28 (sub ! 1 refl (whole !)))) (no-more !))))
+          (from ! (stop !)) (init ! 16 refl (tt, (tt, (record { fits = go .0 }, tt)))) $
           -- the output is lent for the call
           lft-new ! tt (λ ν. move ! (1 ∷ []) $
           use1 W (later (some (λ (δ : GName). ‵ (outLent ν δ out₀) ⊛ ‵ (lent.Lending u8 b₁ o₁ (ν ∷ []) δ out₀))))
@@ -428,28 +467,45 @@ module _ {M : Type 1} (𝓤 : URA M) (H : Heap 𝓤) (A : Atoms 𝓤) (W : Given
     begins : ent 𝓤 (onEntry 𝓤 H A pack.signature κs (bound .0 .1) (bound .0 .3) at)
         (H .⇛ (⋆ 𝓤 H A (‵ (outRow out₀) ∷ ‵ entriesOwn ∷ ‵ (flft κ₀ q₀) ∷ ‵ outShuts ∷ [])))
     begins =
-        qed W ((‵ (flft κ₀ q₀) ⊛ ‵ (flft κ₁ q₁) ⊛ ‵ ftrue) ∷ ‵ (owns (ShrSlice (named 0) κ₀ R.the-row ∷ MutSlice (named 1) κ₁ u8 ∷ []) (bound .0 .3) at) ∷ []) ∵ updating ! $
+        qed W ((‵ (flft κ₀ q₀) ⊛ ‵ (flft κ₁ q₁) ⊛ ‵ ftrue)
+        ∷ ‵ (owns (ShrSlice (named 0) κ₀ R.the-row ∷ MutSlice (named 1) κ₁ u8 ∷ []) (bound .0 .3) at) ∷ []) ∵
+        updating ! $
         split ! $ move ! (1 ∷ []) $ split ! $ keep ! (0 ∷ 2 ∷ 3 ∷ []) $
         -- [κ₁'s token; κ₀'s; the parameters]
         move ! (2 ∷ []) $ fsplit ! $ move ! (1 ∷ []) $ fsplit ! $ keep ! (0 ∷ 2 ∷ 3 ∷ 4 ∷ []) $
         -- [the output; the entries; κ₁'s token; κ₀'s]
-        move ! (0 ∷ 2 ∷ []) $ use2 W (later (‵ (outRow out₀) ⊛ ‵ outShuts)) (lent.opens u8 b₁ o₁ 𝓤 H A W (named 1) κ₁ q₁ γ₁ out₀) $ await ! tt $ split ! $
+        move ! (0 ∷ 2 ∷ []) $ use2 W (later (‵ (outRow out₀) ⊛ ‵ outShuts))
+        (lent.opens u8 b₁ o₁ 𝓤 H A W (named 1) κ₁ q₁ γ₁ out₀) $ await ! tt $ split ! $
         -- [the output's bytes; what shuts it; the entries; κ₀'s token]
         at-once ! $ move ! (0 ∷ 2 ∷ 3 ∷ 1 ∷ []) $ done !
 
-    walk : ent 𝓤 (onEntry 𝓤 H A pack.signature κs (bound .0 .1) (bound .0 .3) at) (WpFn 𝓤 H C Λ code.function (entriesVal ∷ outVal ∷ []) Post)
+    walk : ent 𝓤 (onEntry 𝓤 H A pack.signature κs (bound .0 .1) (bound .0 .3) at)
+        (WpFn 𝓤 H C Λ code.function (entriesVal ∷ outVal ∷ []) Post)
     walk =
-        qed W (raw (onEntry 𝓤 H A pack.signature κs (bound .0 .1) (bound .0 .3) at) ∷ []) ∵ enter ! C Λ code.function (entriesVal ∷ outVal ∷ []) _ $
-        alloc1 ! (λ l₀. alloc1 ! (λ l₁. alloc1 ! (λ l₂. alloc1 ! (λ l₃. alloc1 ! (λ l₄. alloc1 ! (λ l₅. alloc1 ! (λ l₆. alloc1 ! (λ l₇. alloc1 ! (λ l₈. alloc1 ! (λ l₉. alloc1 ! (λ l₁₀. alloc1 ! (λ l₁₁. alloc1 ! (λ l₁₂. alloc1 ! (λ l₁₃. alloc1 ! (λ l₁₄. alloc0 ! $ params1 ! $
-        pass1 ! (init ! 26 refl (tt, (tt, (record { fits = ge .0 }, tt)))) $ pass1 ! (init ! 24 refl (tt, (tt, (record { fits = go .0 }, tt)))) $ pass0 ! $
-        move ! (30 ∷ []) $ use1 W (later (‵ (outRow out₀) ⊛ ‵ entriesOwn ⊛ ‵ (flft κ₀ q₀) ⊛ ‵ outShuts)) begins $ await ! tt $
+        qed W (raw (onEntry 𝓤 H A pack.signature κs (bound .0 .1) (bound .0 .3) at) ∷ []) ∵
+        enter ! C Λ code.function (entriesVal ∷ outVal ∷ []) _ $
+        alloc1 ! (λ l₀. alloc1 !
+        (λ l₁. alloc1 ! (λ l₂. alloc1 !
+        (λ l₃. alloc1 ! (λ l₄. alloc1 !
+        (λ l₅. alloc1 ! (λ l₆. alloc1 !
+        (λ l₇. alloc1 ! (λ l₈. alloc1 !
+        (λ l₉. alloc1 ! (λ l₁₀. alloc1 ! (λ l₁₁. alloc1 ! (λ l₁₂. alloc1 ! (λ l₁₃. alloc1 ! (λ l₁₄. alloc0 ! $
+        params1 ! $
+        pass1 ! (init ! 26 refl (tt, (tt, (record { fits = ge .0 }, tt)))) $
+        pass1 ! (init ! 24 refl (tt, (tt, (record { fits = go .0 }, tt)))) $ pass0 ! $
+        move ! (30 ∷ []) $ use1 W (later (‵ (outRow out₀) ⊛ ‵ entriesOwn ⊛ ‵ (flft κ₀ q₀) ⊛ ‵ outShuts)) begins $
+        await ! tt $
         split ! $ move ! (1 ∷ []) $ split ! $ move ! (1 ∷ []) $ split ! $ move ! (3 ∷ 2 ∷ 0 ∷ 1 ∷ []) $
         begin-checks l₀ l₁ l₂ l₃ l₄ l₅ l₆ l₇ l₈ l₉ l₁₀ l₁₁ l₁₂ l₁₃ l₁₄
         )))))))))))))))
 
-module _ {M : Type 1} (𝓤 : URA M) (H : Heap 𝓤) (A : Atoms 𝓤) (W : Given 𝓤 H A) (mem : Memory → SProp 𝓤) (run : Routine → Fun 𝓤) where
+module _ {M : Type 1} (𝓤 : URA M) (H : Heap 𝓤) (A : Atoms 𝓤) (W : Given 𝓤 H A) (mem : Memory → SProp 𝓤)
+    (run : Routine → Fun 𝓤) where
   goes : AllGo 𝓤 H A W 2 (pack.signature .params) (pack.ended .kept) stayed
-  goes = (goes-none-slice 𝓤 H A W 2 (0 ∷ []) tt (plain (λ _. R.the-row)) yes, (goes-slice 𝓤 H A W 2 1 tt (plain (λ _. u8)), tt))
+  goes = (
+    goes-none-slice 𝓤 H A W 2 (0 ∷ []) tt (plain (λ _. R.the-row)) yes,
+    (goes-slice 𝓤 H A W 2 1 tt (plain (λ _. u8)), tt),
+  )
 
   meets : (𝓣 : Tables 𝓤 H) → Triple 𝓤 (𝓣 .C start-def.name) (Callee 𝓤 H A start.ended (start.clauses 𝓤 H A mem run))
       → Triple 𝓤 (𝓣 .C step-def.name) (Callee 𝓤 H A step.ended (step.clauses 𝓤 H A mem run))

@@ -1,5 +1,5 @@
--- `packed::start` meets its contract: a walk of its MIR, by hand. `open` is called on the file, and a reader is made of the file, 0 and the
--- answer. Assumes nothing.
+-- `packed::start` meets its contract: a walk of its MIR, by hand. `open` is called on the file, and a reader is made
+-- of the file, 0 and the answer. Assumes nothing.
 use mathlib.Core.Path.{_≡_, refl}
 use Prim.Native.Nat.{ℕ}
 use mathlib.Core.List.{List, [], _∷_}
@@ -48,7 +48,8 @@ use Rattle.model.proofs.OpenAnswer.Laws as O′
 use Rattle.packed.specs.declared.Reader.{Reader}
 use Rattle.lent.proofs.Walk.{full, _◂_, leaves, met}
 use Rattle.lent.proofs.Called.{Callee, calls}
-use Rattle.packed.proofs.Held.{readerRow, answerVal, readerType, readerLaws, readerFields, readerVal, reader-typed}
+use Rattle.packed.proofs.Held.{readerRow, answerVal, readerType, readerLaws, readerFields, readerVal}
+use Rattle.packed.proofs.Held.{reader-typed}
 use Rattle.packed.proofs.open as callee
 use Rattle.packed.proofs.open.Symbol as callee-def
 use Rattle.packed.proofs.open.Met as callee-thm
@@ -60,7 +61,8 @@ use Rattle.packed.proofs.start.Code as code
 abbrev stayed : Stays (start.ended .signature .params) (start.ended .kept)
 stayed = (stay-none-slice (0 ∷ []) tt (plain (λ _. u8)) yes, tt)
 
-module _ {M : Type 1} (𝓤 : URA M) (H : Heap 𝓤) (A : Atoms 𝓤) (W : Given 𝓤 H A) (mem : Memory → SProp 𝓤) (run : Routine → Fun 𝓤) (κ : Lft) (q : Share) (f : RefT (List ℕ)) where
+module _ {M : Type 1} (𝓤 : URA M) (H : Heap 𝓤) (A : Atoms 𝓤) (W : Given 𝓤 H A) (mem : Memory → SProp 𝓤)
+    (run : Routine → Fun 𝓤) (κ : Lft) (q : Share) (f : RefT (List ℕ)) where
   -- the file's machine value, and what it owns
   abbrev mach : Val
   mach = sliceVal (f .ptr) (length (f .now))
@@ -94,25 +96,34 @@ module _ {M : Type 1} (𝓤 : URA M) (H : Heap 𝓤) (A : Atoms 𝓤) (W : Given
   made-is p r is = struct.owes (readerType κ (made r)) (readerLaws κ (made r)) (made r) (p, ((refl, lit< tt), (is, tt)))
 
   exits : (r : OpenAnswer) → Found r
-      → ent 𝓤 (⋆ 𝓤 H A (‵ (O.the-row .own r (answerVal r ∷ [])) ∷ (‵ (flft κ q) ⊛ ‵ ftrue) ∷ ‵ fileOwn ∷ ‵ ftrue ∷ [])) (Post (readerVal κ (made r)))
+      → ent 𝓤 (⋆ 𝓤 H A (‵ (O.the-row .own r (answerVal r ∷ [])) ∷ (‵ (flft κ q) ⊛ ‵ ftrue) ∷ ‵ fileOwn ∷ ‵ ftrue ∷ []))
+      (Post (readerVal κ (made r)))
   exits r e =
       qed W (‵ (O.the-row .own r (answerVal r ∷ [])) ∷ (‵ (flft κ q) ⊛ ‵ ftrue) ∷ ‵ fileOwn ∷ ‵ ftrue ∷ []) ∵
-      suffices ! _ (ends-at 𝓤 H A start.ended stayed (start.clauses 𝓤 H A mem run) W bound (readerVal κ (made r)) (made r) (tt, tt) (tt, tt)) $
+      suffices ! _ (ends-at 𝓤 H A start.ended stayed (start.clauses 𝓤 H A mem run) W bound (readerVal κ (made r))
+      (made r) (tt, tt) (tt, tt)) $
       says ! (record { over = refl; first = refl; reply = e }) $
-      move ! (1 ∷ []) $ frame ! $ move ! (1 ∷ []) $ use1 W (‵ fileOwn ⊛ ‵ fileOwn) (shr-slice-copy 𝓤 H A W (named 0) κ u8 .twice f (mach ∷ [])) $ split ! $
+      move ! (1 ∷ []) $ frame ! $ move ! (1 ∷ []) $
+      use1 W (‵ fileOwn ⊛ ‵ fileOwn) (shr-slice-copy 𝓤 H A W (named 0) κ u8 .twice f (mach ∷ [])) $ split ! $
       move ! (0 ∷ 3 ∷ []) $ fjoin ! $ frame ! $
       -- [what the file owns; what the answer owns]: with the position's facts it is what the reader owns
-      nothing ! $ move ! (2 ∷ 0 ∷ []) $ fjoin ! $ owned ! u32 (Is u32) (uint-makes 𝓤 H A W w32) 0 _ (refl, lit< tt) $ fjoin ! $ move ! (1 ∷ []) $ fjoin ! $
+      nothing ! $ move ! (2 ∷ 0 ∷ []) $ fjoin ! $ owned ! u32 (Is u32) (uint-makes 𝓤 H A W w32) 0 _ (refl, lit< tt) $
+      fjoin ! $ move ! (1 ∷ []) $ fjoin ! $
       by ! (own-shut 𝓤 H A W (readerType κ (made r)) (readerLaws κ (made r)) (readerFields κ (made r)))
 
   module _ (C : Calls 𝓤 H) (Λ : Loops 𝓤 H) (fm : FmC 𝓤 H (W .laws) C)
       (known : Triple 𝓤 (C callee-def.name) (Callee 𝓤 H A callee.ended (callee.clauses 𝓤 H A mem run))) where
-    walk : Is (ShrSlice (named 0) κ u8) f (mach ∷ []) → ent 𝓤 (onEntry 𝓤 H A start.signature (κ, tt) (q, tt) (f, tt) at) (WpFn 𝓤 H C Λ code.function (mach ∷ []) Post)
+    walk : Is (ShrSlice (named 0) κ u8) f (mach ∷ [])
+        → ent 𝓤 (onEntry 𝓤 H A start.signature (κ, tt) (q, tt) (f, tt) at) (WpFn 𝓤 H C Λ code.function (mach ∷ []) Post)
     walk p =
-        qed W ((‵ (flft κ q) ⊛ ‵ ftrue) ∷ ‵ (owns (ShrSlice (named 0) κ u8 ∷ []) (f, tt) at) ∷ []) ∵ enter ! C Λ code.function (mach ∷ []) _ $
-        alloc1 ! (λ l₀. alloc1 ! (λ l₁. alloc1 ! (λ l₂. alloc0 ! $ params1 ! $ pass1 ! (init ! 2 refl (shr-slice-lawful 𝓤 H A W (named 0) κ u8 .typed f (mach ∷ []) p .0)) $ pass0 ! $
+        qed W ((‵ (flft κ q) ⊛ ‵ ftrue) ∷ ‵ (owns (ShrSlice (named 0) κ u8 ∷ []) (f, tt) at) ∷ []) ∵
+        enter ! C Λ code.function (mach ∷ []) _ $
+        alloc1 ! (λ l₀. alloc1 ! (λ l₁. alloc1 ! (λ l₂. alloc0 ! $ params1 ! $
+        pass1 ! (init ! 2 refl (shr-slice-lawful 𝓤 H A W (named 0) κ u8 .typed f (mach ∷ []) p .0)) $ pass0 ! $
         -- [the locals; the token; what the file owns]
-        move ! (7 ∷ []) $ fsplit ! $ use1 W (‵ fileOwn ⊛ ‵ fileOwn) (shr-slice-copy 𝓤 H A W (named 0) κ u8 .twice f (mach ∷ [])) $ split ! $ move ! (9 ∷ 1 ∷ []) $
+        move ! (7 ∷ []) $ fsplit ! $
+        use1 W (‵ fileOwn ⊛ ‵ fileOwn) (shr-slice-copy 𝓤 H A W (named 0) κ u8 .twice f (mach ∷ [])) $ split ! $
+        move ! (9 ∷ 1 ∷ []) $
         nothing ! $ move ! (2 ∷ 0 ∷ []) $ fjoin ! $ move ! (1 ∷ 0 ∷ []) $
         -- [the token; what the callee is passed; what the file owns; nothing; the locals]
         calls ! fm callee.ended (callee.clauses 𝓤 H A mem run) known to (id⊢ 𝓤 (emp 𝓤))
@@ -123,12 +134,16 @@ module _ {M : Type 1} (𝓤 : URA M) (H : Heap 𝓤) (A : Atoms 𝓤) (W : Given
         land ! (from ! (stop !)) (init ! 4 refl (enum.lawful O.the-type O′.the-laws 𝓤 H A W tt .typed r _ (hands .typed)
         .0)) $
         rewrite ! 4 (λ (w : Val). ‵ (fat fullShare O′.mir l₂ 0 w)) (hands .value) refl $
-        assigns ! (agg ! (and-then ! (load ! (from ! (stop !)) (look ! 6 refl)) (and-then ! (lit ! tt) (and-then ! (load ! (from ! (stop !)) (look ! 4 refl)) (no-more !))))) (from ! (stop !))
+        assigns !
+        (agg ! (and-then ! (load ! (from ! (stop !)) (look ! 6 refl))
+        (and-then ! (lit ! tt) (and-then ! (load ! (from ! (stop !)) (look ! 4 refl)) (no-more !)))))
+        (from ! (stop !))
         (init ! 8 refl (reader-typed κ (made r) 𝓤 H A W (made-is p r (hands .settled)))) $
         returns ! (look ! 8 refl) $ leaves ! 8 (full ◂ full ◂ full ◂ tt) $ by ! (exits r (hands .ensured)))
         )))
 
-module _ {M : Type 1} (𝓤 : URA M) (H : Heap 𝓤) (A : Atoms 𝓤) (W : Given 𝓤 H A) (mem : Memory → SProp 𝓤) (run : Routine → Fun 𝓤) where
+module _ {M : Type 1} (𝓤 : URA M) (H : Heap 𝓤) (A : Atoms 𝓤) (W : Given 𝓤 H A) (mem : Memory → SProp 𝓤)
+    (run : Routine → Fun 𝓤) where
   meets : (𝓣 : Tables 𝓤 H) → Triple 𝓤 (𝓣 .C callee-def.name) (Callee 𝓤 H A callee.ended (callee.clauses 𝓤 H A mem run))
       → Meets 𝓤 H A start.signature (WpFn 𝓤 H (𝓣 .C) (𝓣 .Λ) code.function) (start.spec 𝓤 H A mem run)
   meets 𝓣 known =

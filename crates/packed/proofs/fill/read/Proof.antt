@@ -1,5 +1,5 @@
--- `packed::fill::read` meets its contract: a walk of its MIR, by hand. The run is opened once, before the loop, and shut
--- once, before the return; in between its records are the walk's own, and each turn stores one.
+-- `packed::fill::read` meets its contract: a walk of its MIR, by hand. The run is opened once, before the loop, and
+-- shut once, before the return; in between its records are the walk's own, and each turn stores one.
 --     At t       the whole context before a turn, where t is how many entries are stored
 --     stores     a turn that stores an entry: it ends nearer
 --     turns      a turn: it stores, or the run is shut and the answer is returned
@@ -31,7 +31,8 @@ use types.Kit.{drop, use1, use2, split, join, rewrite, fsplit, fjoin, suffices, 
 use types.Kit.{now as at-once, done}
 use types.Part.{whole, sub, look-in}
 use types.Run.{look, store, store-raw, init, forget, stop, hop, fld, from as at-place, load, lit, and-then, no-more}
-use types.Run.{of-opd, bin, assigns, assigns-last, first, skips, jumps, blocks, branches, exec, land, returns, enter, alloc1, alloc0}
+use types.Run.{of-opd, bin, assigns, assigns-last, first, skips, jumps, blocks, branches, exec, land, returns, enter}
+use types.Run.{alloc1, alloc0}
 use types.Run.{params1, pass1, pass0, Below, again, loops}
 use sound.WpLaws.{FmC, fmOf}
 use denote.RattleType.{owns}
@@ -128,7 +129,8 @@ offset-fits : (i n : ℕ) → i < n → n * 4 < 2 ^ 63 → i * 4 < 2 ^ 64
 offset-fits i n l g = omega arith
 
 module _ {M : Type 1} (𝓤 : URA M) (H : Heap 𝓤) (A : Atoms 𝓤) (W : Given 𝓤 H A) (mem : Memory → SProp 𝓤)
-    (routine : Routine → Fun 𝓤) (κ₀ κ₁ : Lft) (q₀ q₁ : Share) (file : RefT (List ℕ)) (from : ℕ) (b₁ o₁ : ℕ) (γ₁ : GName) (run : List Entry) where
+    (routine : Routine → Fun 𝓤) (κ₀ κ₁ : Lft) (q₀ q₁ : Share) (file : RefT (List ℕ)) (from : ℕ) (b₁ o₁ : ℕ) (γ₁ : GName)
+    (run : List Entry) where
   -- the machine values of the slices
   abbrev fileVal : Val
   fileVal = sliceVal (ptr file) (length (now file))
@@ -184,7 +186,8 @@ module _ {M : Type 1} (𝓤 : URA M) (H : Heap 𝓤) (A : Atoms 𝓤) (W : Given
   plan-typed : (s : Plan) (v : Val) → Is P.the-row s (v ∷ []) → T (hasTy P′.mir v) × WT v
   plan-typed s v is = struct.lawful P.the-type P′.the-laws 𝓤 H A W .typed s (v ∷ []) is .0
 
-  answer-typed : (a : EntriesAnswer) → Is L.the-row a (answerVal a ∷ []) → T (hasTy L′.mir (answerVal a)) × WT (answerVal a)
+  answer-typed : (a : EntriesAnswer) → Is L.the-row a (answerVal a ∷ []) → T (hasTy L′.mir (answerVal a))
+      × WT (answerVal a)
   answer-typed a is = enum.lawful L.the-type L′.the-laws 𝓤 H A W tt .typed a (answerVal a ∷ []) is .0
 
   -- with a plan: where the walk stands is how many entries are stored
@@ -218,7 +221,8 @@ module _ {M : Type 1} (𝓤 : URA M) (H : Heap 𝓤) (A : Atoms 𝓤) (W : Given
         nothing ! $ move ! (1 ∷ 0 ∷ []) $ fjoin ! $
         owned ! usize (Is usize) (uint-makes 𝓤 H A W w64) from _ (refl, gf) $ fjoin ! $
         move ! (1 ∷ 0 ∷ []) $ fjoin ! $ frame ! $
-        owned ! L.the-row (Is L.the-row) (enum.makes L.the-type L′.the-plain 𝓤 H A) (s .answer) _ (answer-is s is) $ done !
+        owned ! L.the-row (Is L.the-row) (enum.makes L.the-type L′.the-plain 𝓤 H A) (s .answer) _ (answer-is s is) $
+        done !
 
   module _ (𝓣 : Tables 𝓤 H) (known-plan : Triple 𝓤 (𝓣 .C plan-def.name)
       (Callee 𝓤 H A planned.ended (planned.clauses 𝓤 H A mem routine)))
@@ -249,7 +253,8 @@ module _ {M : Type 1} (𝓤 : URA M) (H : Heap 𝓤) (A : Atoms 𝓤) (W : Given
 
       -- the parameters and the result, and the locals that only a turn uses
       abbrev Given-locals : List (Item 𝓤)
-      Given-locals = holds runTy l₃ runVal (holds (tyInt w64) l₂ (vint w64 from) (holds fileTy l₁ fileVal (room L′.mir l₀ [])))
+      Given-locals =
+          holds runTy l₃ runVal (holds (tyInt w64) l₂ (vint w64 from) (holds fileTy l₁ fileVal (room L′.mir l₀ [])))
 
       abbrev turn-locals : List (Item 𝓤) → List (Item 𝓤)
       turn-locals Γ = room tyPtr l₁₁ (room (tyInt w64) l₁₀ (room R′.mir l₉ (room tyBool l₈ (room (tyInt w64) l₇ Γ))))
@@ -257,7 +262,8 @@ module _ {M : Type 1} (𝓤 : URA M) (H : Heap 𝓤) (A : Atoms 𝓤) (W : Given
       -- the locals before a turn, and at the start
       abbrev Locals : Val → ℕ → ℕ → List (Item 𝓤)
       Locals v n p =
-          turn-locals (holds (tyInt w64) l₆ (vint w64 p) (holds (tyInt w64) l₅ (vint w64 n) (holds P′.mir l₄ v Given-locals)))
+          turn-locals (holds (tyInt w64) l₆ (vint w64 p)
+          (holds (tyInt w64) l₅ (vint w64 n) (holds P′.mir l₄ v Given-locals)))
 
       abbrev Before : List (Item 𝓤)
       Before = turn-locals (room (tyInt w64) l₆ (room (tyInt w64) l₅ (room P′.mir l₄ Given-locals)))
@@ -309,7 +315,8 @@ module _ {M : Type 1} (𝓤 : URA M) (H : Heap 𝓤) (A : Atoms 𝓤) (W : Given
         unfolding afterTurn
         stores t less =
             move ! (1 ∷ []) $
-            use1 W (‵ fileOwn ⊛ ‵ fileOwn) (shr-slice-copy 𝓤 H A W (named 0) κ₀ u8 .twice file (fileVal ∷ [])) $ split ! $
+            use1 W (‵ fileOwn ⊛ ‵ fileOwn) (shr-slice-copy 𝓤 H A W (named 0) κ₀ u8 .twice file (fileVal ∷ [])) $
+            split ! $
             nothing ! $
             owned ! usize (Is usize) (uint-makes 𝓤 H A W w64) (s .first + entryBytes * t .0) _
             (refl, there (t .0) less) $ fjoin ! $
@@ -327,25 +334,31 @@ module _ {M : Type 1} (𝓤 : URA M) (H : Heap 𝓤) (A : Atoms 𝓤) (W : Given
             land ! (at-place ! (stop !)) (init ! 8 refl (entry-typed e v (told .typed))) $
             rewrite ! 8 (λ (u : Val). ‵ (fat fullShare R′.mir l₉ 0 u)) (told .value) refl $
             assigns ! (bin ! (load ! (at-place ! (stop !)) (look ! 16 refl)) (lit ! tt)
-            (record { fits = near (t .0) less })) (at-place ! (stop !)) (init ! 6 refl (tt, record { fits = near (t .0) less })) $
+            (record { fits = near (t .0) less })) (at-place ! (stop !))
+            (init ! 6 refl (tt, record { fits = near (t .0) less })) $
             assigns ! (bin ! (load ! (at-place ! (fld ! refl (stop !))) (look-in ! 20 (sub ! 0 refl (whole !))))
             (load ! (at-place ! (stop !)) (look ! 6 refl)) tt) (at-place ! (stop !)) (init ! 4 refl (tt, tt)) $
             rewrite ! 4 (λ (p : ℕ). ‵ (fat fullShare tyPtr l₁₁ 0 (vptr b₁ p))) (sym (place-is 4 o₁ (t .0))) refl $
             elem-out ! R.the-row (Is R.the-row) (shows 𝓤 H A R.the-row) entryVals
-            (struct.tells R.the-type R′.the-laws) fullShare (nowRun s known is (t .0)) (t .0) (entry 0 0 0) b₁ o₁ (inside (t .0) less) (λ _.
+            (struct.tells R.the-type R′.the-laws) fullShare (nowRun s known is (t .0)) (t .0) (entry 0 0 0) b₁ o₁
+            (inside (t .0) less) (λ _.
             -- [run[n]; what it owns; the others; the file; its token; what shuts the run; the locals]
             assigns ! (of-opd ! (load ! (at-place ! (stop !)) (look ! 10 refl)))
-            (at-place ! (hop ! (look ! 6 refl) (stop !))) (store-raw ! 0 refl (entry-typed e (entryVal e) (told .settled))) $
+            (at-place ! (hop ! (look ! 6 refl) (stop !)))
+            (store-raw ! 0 refl (entry-typed e (entryVal e) (told .settled))) $
             move ! (1 ∷ []) $ drop ! $
             owned ! R.the-row (Is R.the-row) (struct.makes R.the-type R′.the-plain 𝓤 H A) e _ (told .settled) $
             move ! (1 ∷ 0 ∷ []) $
-            elem-put ! R.the-row fullShare (nowRun s known is (t .0)) (t .0) e (entryVals e) b₁ o₁ (inside (t .0) less) $
+            elem-put ! R.the-row fullShare (nowRun s known is (t .0)) (t .0) e (entryVals e) b₁ o₁
+            (inside (t .0) less) $
             rewrite ! 0 (λ (ys : List Entry). ‵ (runRow ys))
             (filled-next (now file) (s .first) run (t .0) (free (t .0) less) (told .ensured)) refl $
             assigns ! (bin ! (load ! (at-place ! (stop !)) (look ! 16 refl)) (lit ! tt)
-            (record { fits = more (t .0) less })) (at-place ! (stop !)) (store ! 16 refl (tt, record { fits = more (t .0) less })) $
+            (record { fits = more (t .0) less })) (at-place ! (stop !))
+            (store ! 16 refl (tt, record { fits = more (t .0) less })) $
             assigns-last ! (bin ! (load ! (at-place ! (stop !)) (look ! 14 refl)) (lit ! tt)
-            (record { fits = on (t .0) less })) (at-place ! (stop !)) (store ! 14 refl (tt, record { fits = on (t .0) less })) $
+            (record { fits = on (t .0) less })) (at-place ! (stop !))
+            (store ! 14 refl (tt, record { fits = on (t .0) less })) $
             rewrite ! 14 (λ (p : ℕ). ‵ (fat fullShare (tyInt w64) l₆ 0 (vint w64 p))) (next (t .0) less) refl $
             forget ! 8 refl $ forget ! 6 refl $ forget ! 4 refl $
             again ! (Nearer s known is) At t (t .0 + 1, after-it (t .0) less) (fewer (t .0) less)))
@@ -362,7 +375,8 @@ module _ {M : Type 1} (𝓤 : URA M) (H : Heap 𝓤) (A : Atoms 𝓤) (W : Given
             assigns ! (of-opd ! (load ! (at-place ! (fld ! refl (stop !))) (look-in ! 18 (sub ! 2 refl (whole !)))))
             (at-place ! (stop !)) (init ! 26 refl (answer-typed (s .answer) (answer-is s is))) $
             move ! (0 ∷ 3 ∷ []) $ use2 W (later (‵ (runOwn (nowRun s known is (t .0))) ⊛ ‵ (flft κ₁ q₁)))
-            (lent.shuts R.the-row b₁ o₁ 𝓤 H A W (named 1) κ₁ q₁ γ₁ run (nowRun s known is (t .0)) gr (run-same s known is t)) $
+            (lent.shuts R.the-row b₁ o₁ 𝓤 H A W (named 1) κ₁ q₁ γ₁ run (nowRun s known is (t .0)) gr
+            (run-same s known is t)) $
             await ! tt $ split ! $
             -- [the run; its token; the file; its token; the locals]
             returns ! (look ! 26 refl) $ leaves ! 26 (full ◂ full ◂ full ◂ full ◂ full ◂ full ◂ full ◂ empty ◂ full ◂
@@ -370,7 +384,8 @@ module _ {M : Type 1} (𝓤 : URA M) (H : Heap 𝓤) (A : Atoms 𝓤) (W : Given
             by ! (exits s known is t (nltb→le (t .0) (s .count) over) gf))
 
       -- the code up to the loop, with the run open
-      plans : Sq W (‵ (runRow run) ∷ ‵ fileOwn ∷ ‵ (flft κ₀ q₀) ∷ ‵ runShuts ∷ Before) (runs C Λ E mir.t-1 (atRet E Post))
+      plans : Sq W (‵ (runRow run) ∷ ‵ fileOwn ∷ ‵ (flft κ₀ q₀) ∷ ‵ runShuts ∷ Before)
+          (runs C Λ E mir.t-1 (atRet E Post))
       plans =
           assigns ! (of-opd ! (load ! (at-place ! (fld ! refl (stop !))) (look-in ! 20 (sub ! 1 refl (whole !)))))
           (at-place ! (stop !)) (init ! 12 refl (tt, record { fits = gr .0 })) $
@@ -431,12 +446,14 @@ module _ {M : Type 1} (𝓤 : URA M) (H : Heap 𝓤) (A : Atoms 𝓤) (W : Given
         pass1 ! (init ! 20 refl (tt, (tt, (record { fits = gb .0 }, tt)))) $
         pass1 ! (init ! 18 refl (tt, record { fits = gf })) $
         pass1 ! (init ! 16 refl (tt, (tt, (record { fits = gr .0 }, tt)))) $ pass0 ! $
-        move ! (24 ∷ []) $ use1 W (later (‵ (runRow run) ⊛ ‵ fileOwn ⊛ ‵ (flft κ₀ q₀) ⊛ ‵ runShuts)) begins $ await ! tt $
+        move ! (24 ∷ []) $ use1 W (later (‵ (runRow run) ⊛ ‵ fileOwn ⊛ ‵ (flft κ₀ q₀) ⊛ ‵ runShuts)) begins $
+        await ! tt $
         split ! $ move ! (1 ∷ []) $ split ! $ move ! (1 ∷ []) $ split ! $ move ! (3 ∷ 2 ∷ 0 ∷ 1 ∷ []) $
         plans l₀ l₁ l₂ l₃ l₄ l₅ l₆ l₇ l₈ l₉ l₁₀ l₁₁
         ))))))))))))
 
-module _ {M : Type 1} (𝓤 : URA M) (H : Heap 𝓤) (A : Atoms 𝓤) (W : Given 𝓤 H A) (mem : Memory → SProp 𝓤) (run : Routine → Fun 𝓤) where
+module _ {M : Type 1} (𝓤 : URA M) (H : Heap 𝓤) (A : Atoms 𝓤) (W : Given 𝓤 H A) (mem : Memory → SProp 𝓤)
+    (run : Routine → Fun 𝓤) where
   goes : AllGo 𝓤 H A W 2 (read.signature .params) (read.ended .kept) stayed
   goes = (
     goes-none-slice 𝓤 H A W 2 (0 ∷ []) tt (plain (λ _. u8)) yes,
