@@ -1,5 +1,6 @@
--- What the machine's types say of entries: a left side has no bit above the columns. The laws on packed lists ask no
--- more.
+-- What the laws on packed lists ask of entries: a left side has no bit at or above the bound on columns. The type of an
+-- entry says it, since a left side has 2 bytes and the bound is 16; with a wider left side it would have to come from
+-- 15.
 use Prim.Native.Nat.{_^_, _<_}
 use mathlib.Core.List.{List, [], _∷_}
 use Rattle.columns.specs.Bound.{columnBound}

@@ -15,7 +15,7 @@ use Rattle.passing.specs.declared.Walk.{Walk}
 use Rattle.steps.specs.declared.Stepped.{Stepped}
 use Rattle.steps.specs.declared.Stepped.the-variants.{Put, Done}
 use Rattle.model.specs.Listing.{Listing, cells}
-use Rattle.model.specs.List.{codeAfter, CallMeaning}
+use Rattle.model.specs.List.{firstCode, CallMeaning}
 use Rattle.walk.specs.Meaning.{Good}
 use Rattle.steps.specs.Steps.{due, toPut, replyTo, WordsBegun, Begins, Went, whole, values}
 use Rattle.model.specs.Calls.{seen}
@@ -98,7 +98,7 @@ module _ (l : Listing) (code : ℕ) (es : List Entry) (vs : List ℕ) (run : Lis
 pub lists : (before : ℕ) (l : Listing) (place budget : ℕ) (run : List Entry) (words : List ℕ) (put : List Entry)
     (now : List ℕ)
     (a : ListAnswer)
-    → Facts l (codeAfter before (cells l) place budget (length run) (length words)) (whole l place budget (length run))
+    → Facts l (firstCode before (cells l) place budget (length run) (length words)) (whole l place budget (length run))
     (values l place budget (length run)) run words (Done a) put now
     → CallMeaning before l (seen place budget run words (listReply a) (put ++ drop (length put) run) now)
 lists before l place budget run words put now a f =

@@ -20,9 +20,8 @@ unfoldable pub cap : ℕ → ℕ
 cap room = ifLt room runBound room runBound
 
 -- The whole run is then one equation (`run-is-run-after-zeros` of proofs/WholeRun.antt):
---    run ≡ runAfter (listCode cat place budget (cap room) (length work)) (whole (ordinary cat) place budget (cap
---         room))
---         (replicate runBound (entry 0 0 0))
+--     run ≡ runAfter (listCode cat place budget (cap room) (length work))
+--         (whole (ordinary cat) place budget (cap room)) (replicate runBound (entry 0 0 0))
 pub record FilledBy (cat : List ℕ) (place budget room : ℕ) (work : List ℕ) (answer : ListAnswer) (run : List Entry)
     (workThen : List ℕ)
     : Type 0 where

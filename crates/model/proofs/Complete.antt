@@ -14,7 +14,7 @@ use Rattle.model.specs.Entry.{Ordered, Once}
 use Rattle.model.specs.Listing.{Listing, Bounded, Stands, ordinary, cells, countAll}
 use Rattle.model.specs.Calls.{flat, Seen, Obeys, callCode}
 use Rattle.model.specs.Demand.{Linked, Every, AllObey, placeHeld, joined, Demand3, Complete}
-use Rattle.model.specs.List.{codeAfter, CallMeaning, ListMeaning}
+use Rattle.model.specs.List.{firstCode, CallMeaning, ListMeaning}
 use Rattle.model.specs.declared.Entry.{Entry}
 use Rattle.model.proofs.Grounds.{orElse-left}
 use Rattle.model.proofs.Demand.{demand3, every-map}
@@ -24,14 +24,14 @@ use Rattle.model.proofs.Rights.{ordinary-bounded}
 
 -- where no ground comes before, the first ground against a call is one of the call's own
 pub after-none : {A : Type 0} (before : ℕ) → before ≡ 0 → (cs : List (List A)) (p g r w : ℕ)
-    → codeAfter before cs p g r w ≡ callCode cs p g r w
-unfolding codeAfter orElse
+    → firstCode before cs p g r w ≡ callCode cs p g r w
+unfolding firstCode orElse
 after-none before none cs p g r w = ifEq-yes _ none
 
 -- and where there is no ground, none comes before
-pub none-before : {A : Type 0} (before : ℕ) (cs : List (List A)) (p g r w : ℕ) → codeAfter before cs p g r w ≡ 0
+pub none-before : {A : Type 0} (before : ℕ) (cs : List (List A)) (p g r w : ℕ) → firstCode before cs p g r w ≡ 0
     → before ≡ 0
-unfolding codeAfter
+unfolding firstCode
 none-before before cs p g r w e = orElse-left before _ e
 
 module _ (before : ℕ) (none : before ≡ 0) (l : Listing) where

@@ -17,6 +17,7 @@ use Rattle.model.specs.Listing.{rightsOf, cells, cellsFrom, cellsOf, ent
 use Rattle.model.specs.Listed.{listed}
 use Rattle.model.specs.Rights.{rightAt, rightsFrom, rightsIn}
 use Rattle.model.specs.Encode.{headOf, codesOf, rowOf, trailerOf}
+use Rattle.model.specs.Encode.{rowsBytes, tableBytes, tablesBytes, startsFrom, encode}
 use Rattle.model.specs.Album.{album, noRows, oneMissing, bothMissing, equalRows}
 use Rattle.model.specs.Damaged.{groundsFrom, notZero, grounds, cut, noTable, children, offsetsFrom, manyTables}
 use Rattle.model.specs.Damaged.{longTrailer, lateTable, shortHead, shortRow, leftByte, manyColumns, rowsOnly}
@@ -28,7 +29,7 @@ use Rattle.columns.specs.Set.{memberOf}
 use Rattle.model.specs.Question.{targetCode, leftSideCode, rightSideCode, sidesCode, wordsCode, questionCode}
 use Rattle.model.specs.Question.{askMeaning}
 use Rattle.model.specs.Calls.{passed, written, placeCode, roomCode, callCode, runAfter, workAfter}
-use Rattle.model.specs.List.{codeAfter}
+use Rattle.model.specs.List.{firstCode}
 use Rattle.model.specs.Entry.{earlier}
 use Rattle.model.specs.Entries.{bytesOf, entryAt, entriesBytes, entriesFrom, entriesCode}
 use Rattle.model.specs.Entries.{entryCode, laterCode, restCode}
@@ -45,12 +46,13 @@ unfolding ones onesIn ifEq ifLt ifLe withoutOf inOrder bySizeFrom ofSize ofSizeF
     visibleIn inherited sets setsFrom checkCode checkMeaning sizeCode trailerCode startOf headCode boundCode parentCode
     widthCode extentCode rowCode tableCode leftCode holds minimal allBelow agreeOn owner ownerIn ancestor ancestorIn
     cellsAgree agreeAt listed rightAt rightsFrom rightsIn rightsOf cells cellsFrom cellsOf entriesOf headOf codesOf
-    rowOf trailerOf album noRows oneMissing bothMissing equalRows groundsFrom notZero grounds cut noTable children
+    rowOf trailerOf rowsBytes tableBytes tablesBytes startsFrom encode album noRows oneMissing bothMissing equalRows
+    groundsFrom notZero grounds cut noTable children
     offsetsFrom manyTables longTrailer lateTable shortHead shortRow leftByte manyColumns rowsOnly manyRows rootedRoot
     ownParent tooWide rootedRow unknownParentRow smallest mostColumns mostRows widest lateAndLarge largeAndRooted
     ownParentAndWide wideAndLong longAndRooted rowThenTable rowThenByte inLine forked below offsetsBy12 deepest memberOf
     targetCode leftSideCode rightSideCode sidesCode wordsCode questionCode askMeaning passed written placeCode roomCode
-    callCode runAfter workAfter codeAfter earlier tailCode bytesOf entryAt countIn distanceIn entriesBytes packed
+    callCode runAfter workAfter firstCode earlier tailCode bytesOf entryAt countIn distanceIn entriesBytes packed
     entriesFrom entriesHeld frontOf entryCode laterCode restCode entriesCode outputCode packCode packMeaning outputAfter
     readCode openMeaning entriesRead frontRead readFrom readMeaning runRead readAt emptyList lostEntry answerText
     listingText headLine refusedLine linesOf entryLine entryText rightText decimal decimalIn

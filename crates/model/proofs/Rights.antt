@@ -225,5 +225,4 @@ ordinary-bounded cat ok =
     record {
       targets = accepted-tables cat ok;
       members = λ target h. accepted-visible cat ok target h;
-      rights = λ target h. own-rights-lt cat target;
     }

@@ -2,21 +2,15 @@
 use Prim.Native.Nat.{ℕ}
 use mathlib.Core.List.{List, [], _∷_, _++_}
 use Rattle.model.specs.Bounds.{noParent, missing}
-use Rattle.model.specs.Encode.{headOf, rowOf, trailerOf}
+use Rattle.model.specs.Encode.{content, encode}
 
 -- table 0 has one column and the rows 5, 5, missing; table 1 has parent 0, two columns and four rows. 84 bytes
 unfoldable pub album : List ℕ
 album =
-    headOf 1 noParent 3
-    ++ rowOf noParent (5 ∷ [])
-    ++ rowOf noParent (5 ∷ [])
-    ++ rowOf noParent (missing ∷ [])
-    ++ headOf 2 0 4
-    ++ rowOf 0 (1 ∷ 7 ∷ [])
-    ++ rowOf 1 (3 ∷ 7 ∷ [])
-    ++ rowOf 2 (1 ∷ 8 ∷ [])
-    ++ rowOf 2 (2 ∷ 8 ∷ [])
-    ++ trailerOf (0 ∷ 24 ∷ []) 2 70
+    encode
+    (content 1 noParent ((noParent, 5 ∷ []) ∷ (noParent, 5 ∷ []) ∷ (noParent, missing ∷ []) ∷ [])
+    ∷ content 2 0 ((0, 1 ∷ 7 ∷ []) ∷ (1, 3 ∷ 7 ∷ []) ∷ (2, 1 ∷ 8 ∷ []) ∷ (2, 2 ∷ 8 ∷ []) ∷ [])
+    ∷ [])
 
 -- what the listing program prints for it: `tables 2 sets 10 entries 3`, `1 1 2`, `1 3 row` and `1 6 row`, each with a
 -- line feed
@@ -30,26 +24,20 @@ albumLines =
 
 -- K6: one column and no rows
 unfoldable pub noRows : List ℕ
-noRows = headOf 1 noParent 0 ++ trailerOf (0 ∷ []) 1 6
+noRows = encode (content 1 noParent [] ∷ [])
 
 -- K7: one column and one row, whose cell is missing
 unfoldable pub oneMissing : List ℕ
-oneMissing = headOf 1 noParent 1 ++ rowOf noParent (missing ∷ []) ++ trailerOf (0 ∷ []) 1 12
+oneMissing = encode (content 1 noParent ((noParent, missing ∷ []) ∷ []) ∷ [])
 
 -- K8: one column and two rows, both cells missing
 unfoldable pub bothMissing : List ℕ
-bothMissing =
-    headOf 1 noParent 2
-    ++ rowOf noParent (missing ∷ [])
-    ++ rowOf noParent (missing ∷ [])
-    ++ trailerOf (0 ∷ []) 1 18
+bothMissing = encode (content 1 noParent ((noParent, missing ∷ []) ∷ (noParent, missing ∷ []) ∷ []) ∷ [])
 
 -- K9: a root with one row, and under it a table with two equal rows; all cells are present
 unfoldable pub equalRows : List ℕ
 equalRows =
-    headOf 1 noParent 1
-    ++ rowOf noParent (5 ∷ [])
-    ++ headOf 1 0 2
-    ++ rowOf 0 (7 ∷ [])
-    ++ rowOf 0 (7 ∷ [])
-    ++ trailerOf (0 ∷ 12 ∷ []) 2 30
+    encode
+    (content 1 noParent ((noParent, 5 ∷ []) ∷ [])
+    ∷ content 1 0 ((0, 7 ∷ []) ∷ (0, 7 ∷ []) ∷ [])
+    ∷ [])

@@ -60,6 +60,7 @@ pub record Seen (A : Type 0) : Type 0 where
   pub runThen : List A
   pub workThen : List ℕ
 
+-- from its place, budget, run and work words, its reply, and the run and the work words afterwards
 abbrev pub seen : {A : Type 0} → ℕ → ℕ → List A → List ℕ → Reply → List A → List ℕ → Seen A
 seen place budget run work reply runThen workThen =
     record {

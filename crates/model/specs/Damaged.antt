@@ -16,10 +16,10 @@ use Rattle.model.specs.Encode.{headOf, rowOf, trailerOf}
 
 -- every ground in a file, in the order of the check: not only the first
 unfoldable pub groundsFrom : List ℕ → ℕ → ℕ → List ℕ
-groundsFrom cat zero i = leftCode cat ∷ []
-groundsFrom cat (suc n) i =
-    headCode cat i ∷ boundCode cat i ∷ parentCode cat i ∷ widthCode cat i ∷ extentCode cat i
-    ∷ firstOf (rows cat i) 0 (rowCode cat i) ∷ groundsFrom cat n (suc i)
+groundsFrom cat zero table = leftCode cat ∷ []
+groundsFrom cat (suc n) table =
+    headCode cat table ∷ boundCode cat table ∷ parentCode cat table ∷ widthCode cat table ∷ extentCode cat table
+    ∷ firstOf (rows cat table) 0 (rowCode cat table) ∷ groundsFrom cat n (suc table)
 
 unfoldable pub notZero : List ℕ → List ℕ
 notZero [] = []

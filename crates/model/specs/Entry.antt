@@ -11,7 +11,7 @@ use Rattle.columns.specs.Order.{Precedes}
 use Rattle.model.specs.declared.Entry.{Entry}
 
 abbrev pub entry : ℕ → ℕ → ℕ → Entry
-entry t x a = record { target = t; right = a; left = x }
+entry target left right = record { target = target; right = right; left = left }
 
 -- e stands before f
 abbrev pub Earlier : Entry → Entry → Type 0

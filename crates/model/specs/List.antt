@@ -10,19 +10,18 @@ use Rattle.model.specs.Calls.{Seen, Obeys, callCode}
 use Rattle.model.specs.declared.Entry.{Entry}
 
 -- the first ground against a call: the one before, then 11, 12 and 13
-unfoldable pub codeAfter : {A : Type 0} → ℕ → List (List A) → ℕ → ℕ → ℕ → ℕ → ℕ
-codeAfter before cells place budget room words = orElse before (callCode cells place budget room words)
+unfoldable pub firstCode : {A : Type 0} → ℕ → List (List A) → ℕ → ℕ → ℕ → ℕ → ℕ
+firstCode before cells place budget room words = orElse before (callCode cells place budget room words)
 
 -- the contract of a call on a listing
 abbrev pub CallMeaning : ℕ → Listing → Seen Entry → Type 0
 CallMeaning before l s =
-    Obeys (cells l) (codeAfter before (cells l) (s .place) (s .budget) (length (s .run)) (length (s .work))) s
+    Obeys (cells l) (firstCode before (cells l) (s .place) (s .budget) (length (s .run)) (length (s .work))) s
 
 -- the first ground against a call on a catalogue's bytes: 1 to 7, then 11, 12 and 13
 abbrev pub listCode : List ℕ → ℕ → ℕ → ℕ → ℕ → ℕ
-listCode cat place budget room words = codeAfter (checkCode cat) (cells (ordinary cat)) place budget room words
+listCode cat place budget room words = firstCode (checkCode cat) (cells (ordinary cat)) place budget room words
 
 -- the contract of the listing call
 abbrev pub ListMeaning : List ℕ → Seen Entry → Type 0
-ListMeaning cat s =
-    Obeys (cells (ordinary cat)) (listCode cat (s .place) (s .budget) (length (s .run)) (length (s .work))) s
+ListMeaning cat s = CallMeaning (checkCode cat) (ordinary cat) s

@@ -73,12 +73,10 @@ countTargets l (suc target) = countLefts l target (2 ^ widthOf l target) + count
 unfoldable pub countAll : Listing → ℕ
 countAll l = countTargets l (l .targets)
 
--- a listing within the bounds: as many targets and members as a catalogue has at most, and rights among the members
--- and the row
+-- a listing within the bounds: it has no more targets and members than a catalogue has at most
 pub record Bounded (l : Listing) : Type 0 where
   pub targets : l .targets ≤ tableBound
   pub members : (target : ℕ) → target < l .targets → widthOf l target ≤ columnBound
-  pub rights : (target : ℕ) → target < l .targets → l .rights target < 2 ^ suc (widthOf l target)
 
 -- the ordinary listing of a catalogue: its tables, their visible columns, and their own columns and the row on the
 -- right

@@ -14,7 +14,7 @@ use Rattle.model.specs.declared.OpenAnswer.{OpenAnswer}
 use Rattle.model.specs.declared.OpenAnswer.the-variants.{Opened, Refused}
 use Rattle.entries.proofs.Entries.{read-past}
 use Rattle.unpacking.specs.Reading.{entriesBy, frontBy, afterIn}
-use Rattle.packed.specs.Reading.{Begun, entryNext, after, Reads}
+use Rattle.packed.specs.Reading.{Begun, entryNext, readerAfter, Reads}
 use Rattle.packed.specs.declared.Reader.{Reader}
 use Rattle.packed.proofs.Opening.{answered-by, refused-by}
 
@@ -57,23 +57,23 @@ read-min es n = go (decLt n (length es))
 
 module _ (f : RefT (List ℕ)) (r : Reader) (h : Begun f r) where
   -- the file and the answer stay as they were
-  over : (n : ℕ) → after n r .list ≡ f
+  over : (n : ℕ) → readerAfter n r .list ≡ f
   over zero = h .over
   over (suc n) = over n
 
-  reply : (n : ℕ) → openReply (after n r .answer) ≡ openMeaning (now f)
+  reply : (n : ℕ) → openReply (readerAfter n r .answer) ≡ openMeaning (now f)
   reply zero = h .reply
   reply (suc n) = reply n
 
-  held : (n : ℕ) → entriesBy (after n r .answer) (now (after n r .list)) ≡ entriesRead (now f)
-  held n = ap (λ (g : RefT (List ℕ)). entriesBy (after n r .answer) (now g)) (over n)
-      ∙ entries-by (now f) (after n r .answer) (reply n)
+  held : (n : ℕ) → entriesBy (readerAfter n r .answer) (now (readerAfter n r .list)) ≡ entriesRead (now f)
+  held n = ap (λ (g : RefT (List ℕ)). entriesBy (readerAfter n r .answer) (now g)) (over n)
+      ∙ entries-by (now f) (readerAfter n r .answer) (reply n)
 
-  position : (n : ℕ) → after n r .at ≡ min n (length (entriesRead (now f)))
+  position : (n : ℕ) → readerAfter n r .at ≡ min n (length (entriesRead (now f)))
   position zero = h .first ∙ omega arith
   position (suc n) = ap₂ afterIn (held n) (position n) ∙ after-min (entriesRead (now f)) n
 
-  answers : (n : ℕ) → entryNext (after n r) ≡ readAt (entriesRead (now f)) n
+  answers : (n : ℕ) → entryNext (readerAfter n r) ≡ readAt (entriesRead (now f)) n
   answers n = ap₂ readAt (held n) (position n) ∙ read-min (entriesRead (now f)) n
 
   -- every file is read so by the reader that begins on it
@@ -83,8 +83,8 @@ module _ (f : RefT (List ℕ)) (r : Reader) (h : Begun f r) where
         entries = answers;
         ends = λ n l. answers n ∙ read-past (entriesRead (now f)) n l;
         opened = reply;
-        front = λ n. ap (λ (g : RefT (List ℕ)). frontBy (after n r .answer) (now g)) (over n)
-            ∙ front-by (now f) (after n r .answer) (reply n);
+        front = λ n. ap (λ (g : RefT (List ℕ)). frontBy (readerAfter n r .answer) (now g)) (over n)
+            ∙ front-by (now f) (readerAfter n r .answer) (reply n);
       }
 
 -- the reader of a refused file and that of an accepted one, an empty list for one, differ in what `open` answered

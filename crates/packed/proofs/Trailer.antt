@@ -41,12 +41,12 @@ distance-of xs k d h =
 pub list-some : number NoList ≡ 0 → ⊥
 list-some z = omega arith
 
-pub record Listed (file : List ℕ) : Type 0 where
+pub record Tailed (file : List ℕ) : Type 0 where
   pub trailer : trailerBytes ≤ length file
   pub distance : distanceIn file ≡ distanceOf (countIn file)
   pub fits : distanceIn file ≤ length file
 
-pub listed : (file : List ℕ) → tailCode file ≡ 0 → Listed file
+pub listed : (file : List ℕ) → tailCode file ≡ 0 → Tailed file
 unfolding tailCode
 listed file h =
     let p = no-lt (length file) trailerBytes (number NoList) _ list-some h in
@@ -54,7 +54,7 @@ listed file h =
     let r = no-lt (length file) (distanceIn file) (number NoList) 0 list-some (q .1) in
     record { trailer = p .0; distance = q .0; fits = r .0 }
 
-pub lists : (file : List ℕ) → Listed file → tailCode file ≡ 0
+pub lists : (file : List ℕ) → Tailed file → tailCode file ≡ 0
 unfolding tailCode
 lists file l = ifLt-no (number NoList) (l .trailer) ∙ ifEq-yes (number NoList) (l .distance)
     ∙ ifLt-no (number NoList) (l .fits)

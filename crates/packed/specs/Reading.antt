@@ -29,14 +29,14 @@ frontHeld r = frontBy (r .answer) (now (r .list))
 abbrev pub advanced : Reader → Reader
 advanced r = record { list = r .list; at = afterIn (entriesBy (r .answer) (now (r .list))) (r .at); answer = r .answer }
 
-abbrev pub after : ℕ → Reader → Reader
-after zero r = r
-after (suc n) r = advanced (after n r)
+abbrev pub readerAfter : ℕ → Reader → Reader
+readerAfter zero r = r
+readerAfter (suc n) r = advanced (readerAfter n r)
 
 -- a reading from r is that of the file f, at every step: its answers are the entries that may be read, in order, and
 -- then 'end'
 pub record Reads (f : RefT (List ℕ)) (r : Reader) : Type 0 where
-  pub entries : (n : ℕ) → entryNext (after n r) ≡ readAt (entriesRead (now f)) n
-  pub ends : (n : ℕ) → length (entriesRead (now f)) ≤ n → entryNext (after n r) ≡ End
-  pub opened : (n : ℕ) → openReply (after n r .answer) ≡ openMeaning (now f)
-  pub front : (n : ℕ) → frontHeld (after n r) ≡ frontRead (now f)
+  pub entries : (n : ℕ) → entryNext (readerAfter n r) ≡ readAt (entriesRead (now f)) n
+  pub ends : (n : ℕ) → length (entriesRead (now f)) ≤ n → entryNext (readerAfter n r) ≡ End
+  pub opened : (n : ℕ) → openReply (readerAfter n r .answer) ≡ openMeaning (now f)
+  pub front : (n : ℕ) → frontHeld (readerAfter n r) ≡ frontRead (now f)

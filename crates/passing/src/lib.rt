@@ -11,9 +11,10 @@ pub enum Held {
     Seeds,
 }
 
-// Where a call stands: the set that it passed last, with how many members its target has, what the work words hold
-// for that target and which rights it has; the place after the set, the budget and the room that are left from there
-// on, how many sets are passed and how many entries they have; and the rights of the set that are still to be put.
+// Where a call stands: the set that it passed last, with how many members its target has and, where more sets can be
+// passed, what the work words hold for that target and which rights it has; the place after the set, the budget and
+// the room that are left from there on, how many sets are passed and how many entries they have; and the rights of the
+// set that are still to be put.
 pub struct Walk {
     pub target: u32,
     pub left: u32,

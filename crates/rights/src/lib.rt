@@ -28,7 +28,8 @@ use layout::visible;
 use leaders::SIZE;
 use passing::Held;
 
-// A target that is entered: what the work words hold for it, and a mask of rights.
+// A target that is entered: what the work words hold for it and all its rights; for one set by itself, the listed
+// rights of that set, and nothing of the words.
 pub struct Entered {
     pub held: Held,
     pub mask: u32,

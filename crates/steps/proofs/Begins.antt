@@ -11,7 +11,7 @@ use Rattle.model.specs.Check.{checkCode}
 use Rattle.model.specs.Refusal.{number, lastRefusal}
 use Rattle.model.specs.Calls.{passed, written, callCode, workAfter}
 use Rattle.model.specs.Listing.{Listing, cells}
-use Rattle.model.specs.List.{codeAfter}
+use Rattle.model.specs.List.{firstCode}
 use Rattle.model.specs.Reply.{Reply, replyOf, answered}
 use Rattle.model.specs.declared.Entry.{Entry}
 use Rattle.model.specs.declared.ListAnswer.the-variants as answer
@@ -41,7 +41,7 @@ refusal-number cat e n = (omega arith, omega (arith, check-code-le cat))
 
 module _ (before : ℕ) (l : Listing) (place budget room : ℕ) (words : List ℕ) where
   abbrev ground : ℕ
-  ground = codeAfter before (cells l) place budget room (length words)
+  ground = firstCode before (cells l) place budget room (length words)
 
   -- a refusal that leaves the words as they are
   refused-at : (r : Refusal) → ground ≡ number r → (number r ≡ 0 → ⊥)
@@ -58,7 +58,7 @@ module _ (before : ℕ) (l : Listing) (place budget room : ℕ) (words : List �
   -- what comes before is refused, and is not 13
   pub begin-refused : (k : ℕ) (r : Refusal) → k ≡ before → (k ≡ 0 → ⊥) → number r ≡ k → k < number RunTooShort
       → Began before l place budget room words (Done (answer.Refused r)) words
-  unfolding codeAfter
+  unfolding firstCode
   begin-refused k r e n q small =
       refused-at r (orElse-first _ (λ z. n (e ∙ z)) ∙ sym e ∙ sym q) (λ z. n (sym q ∙ z)) (λ z. omega arith)
 

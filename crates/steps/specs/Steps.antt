@@ -7,7 +7,7 @@ use lib.ListN.{length, drop, replicate}
 use Rattle.columns.specs.Test.{ifEq}
 use Rattle.model.specs.Calls.{passed, written, workAfter}
 use Rattle.model.specs.Listing.{Listing, cells}
-use Rattle.model.specs.List.{codeAfter}
+use Rattle.model.specs.List.{firstCode}
 use Rattle.model.specs.Reply.{Reply, replyOf, listReply}
 use Rattle.model.specs.declared.Entry.{Entry}
 use Rattle.passing.specs.declared.Walk.{Walk}
@@ -59,7 +59,7 @@ values l place budget room =
 -- the contract of `begin`, where `before` comes before the refusals of the call itself
 abbrev pub Began : ℕ → Listing → ℕ → ℕ → ℕ → List ℕ → Stepped → List ℕ → Type 0
 Began before l place budget room words =
-    Begins l (codeAfter before (cells l) place budget room (length words)) (whole l place budget room)
+    Begins l (firstCode before (cells l) place budget room (length words)) (whole l place budget room)
     (values l place budget room) room words
 
 -- the contract of `step`, from a walk that fits the words

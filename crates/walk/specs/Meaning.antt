@@ -5,9 +5,8 @@ use mathlib.Core.Path.{_≡_}
 use mathlib.Core.List.{List, [], _∷_, _++_}
 use lib.ListN.{length, drop}
 use Rattle.model.specs.Bounds.{workBound}
-use Rattle.model.specs.Check.{Accepted}
 use Rattle.model.specs.Calls.{passed, written}
-use Rattle.model.specs.Listing.{Listing, widthOf, cells, Bounded, ordinary}
+use Rattle.model.specs.Listing.{Listing, widthOf, cells, Bounded}
 use Rattle.model.specs.Reply.{Reply, answered}
 use Rattle.model.specs.declared.Entry.{Entry}
 use Rattle.passing.specs.Pass.{rightBound}

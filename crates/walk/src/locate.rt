@@ -56,7 +56,7 @@ fn set_at(n: u32, index: u32) -> u32
     }
 }
 
-// The walk at the set that stands at a place. Of the work words it says nothing yet.
+// The walk at the set that stands at a place. What it says of the work words and of rights means nothing yet.
 pub fn first(cat: &[u8], place: u32, budget: u32, room: usize) -> Walk
     requires { ⌜ Accepted (now cat) ⌝ }
     requires { ⌜ place < setsOf (now cat) ⌝ }
