@@ -13,7 +13,8 @@ use Rattle.columns.proofs.Test.{ifLt-no}
 use Rattle.model.specs.Bounds.{workBound, row}
 use Rattle.model.specs.Refusal.{number}
 use Rattle.model.specs.declared.Refusal.the-variants.{TooFewWords, PastTheEnd}
-use Rattle.model.specs.Reply.{Reply, answered, replyOf}
+use Rattle.model.specs.Reply.{Reply, refused, answered, replyOf}
+use Rattle.model.specs.Damaged.{tooWide}
 use Rattle.model.specs.Question.{wordsCode}
 use Rattle.model.specs.Catalogue.{visible}
 use Rattle.model.specs.Check.{checkCode, checkMeaning}
@@ -107,6 +108,10 @@ album-check : checkMeaning album ≡ answered (2 ∷ 10 ∷ [])
 unfolding computes
 album-check = refl
 
+refused-check : checkMeaning tooWide ≡ refused 6
+unfolding computes
+refused-check = refl
+
 album-listing : flat (cells (ordinary album)) ≡ entry 1 1 2 ∷ entry 1 3 row ∷ entry 1 6 row ∷ []
 unfolding computes
 album-listing = refl
@@ -193,6 +198,7 @@ cases =
       k11 = last11;
       albumLength = album-length;
       albumCheck = album-check;
+      refusedCheck = refused-check;
       albumListing = album-listing;
       albumText = album-text;
       albumAccepted = album-accepted;

@@ -50,6 +50,8 @@ question-replies =
       k3 = refl;
       noKey = refl;
       refused8 = refl;
+      refused9 = refl;
+      refused10 = refl;
       refused11 = refl;
       refused6 = refl;
       pairOfK1 = λ r m. m .none refl refl;
@@ -63,6 +65,8 @@ question-replies =
           let second : 0 ≡ rows .1 = ap (λ (r : Reply). getD (values r) 1 0) (rows .2) in
           omega (arith, rows .3 .lower);
       pairRefused8 = λ r m. m .isRefused (λ (e : _≡_ {A = ℕ} 8 0). omega arith);
+      pairRefused11 = λ r m. m .isRefused (λ (e : _≡_ {A = ℕ} 11 0). omega arith);
+      pairRefused6 = λ r m. m .isRefused (λ (e : _≡_ {A = ℕ} 6 0). omega arith);
       zeroed = refl;
       kept = λ n ground. ifEq-no (0 ∷ 0 ∷ []) ground;
     }
@@ -120,6 +124,10 @@ packed-replies =
       entries = refl;
       front = refl;
       refused14 = refl;
+      opened15 = refl;
+      noEntries15 = refl;
+      read14 = refl;
+      read15 = refl;
       noEntries = refl;
       noFront = refl;
       first = refl;

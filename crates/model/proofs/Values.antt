@@ -30,6 +30,8 @@ byte-order =
       readPast = refl;
       write2 = refl;
       write4 = refl;
+      lowest2 = refl;
+      lowest4 = refl;
       albumRoot = refl;
       albumBelow = refl;
       albumTrailer = refl;
@@ -55,6 +57,7 @@ refusal-numbers =
       noList = refl;
       badEntry = refl;
       outputTooShort = refl;
+      last = refl;
     }
 
 pub answer-values : AnswerValues

@@ -6,7 +6,7 @@ use mathlib.Core.List.{[], _∷_, List·Memᴰ}
 use lib.ListN.{length}
 use Rattle.columns.specs.Order.{Precedes, inOrder}
 use Rattle.model.specs.Bounds.{workBound, row}
-use Rattle.model.specs.Reply.{answered}
+use Rattle.model.specs.Reply.{refused, answered}
 use Rattle.model.specs.Catalogue.{visible}
 use Rattle.model.specs.Check.{Accepted, checkMeaning}
 use Rattle.model.specs.View.{Holds, Key, Breaks}
@@ -17,7 +17,7 @@ use Rattle.model.specs.Calls.{flat, Seen}
 use Rattle.model.specs.List.{ListMeaning}
 use Rattle.model.specs.Text.{answerText}
 use Rattle.model.specs.Album.{album, albumLines, noRows, oneMissing, bothMissing, equalRows}
-use Rattle.model.specs.Damaged.{Damages, AtTheBounds, DamageOrder}
+use Rattle.model.specs.Damaged.{tooWide, Damages, AtTheBounds, DamageOrder}
 use Rattle.model.specs.RefusedCalls.{RefusedQuestions, RefusedListings, RefusedLists}
 use Rattle.model.specs.Line.{Line, Fork, Depth}
 use Rattle.model.specs.Replies.{QuestionReplies, ListReplies, PackedReplies, TextReplies}
@@ -51,6 +51,7 @@ pub record Cases : Type 0 where
   -- the album's file, what its check answers, and its full listing
   pub albumLength : length album ≡ 84
   pub albumCheck : checkMeaning album ≡ answered (2 ∷ 10 ∷ [])
+  pub refusedCheck : checkMeaning tooWide ≡ refused 6
   pub albumListing : flat (cells (ordinary album)) ≡ entry 1 1 2 ∷ entry 1 3 row ∷ entry 1 6 row ∷ []
   -- and what the listing program prints for it
   pub albumText : answerText album ≡ albumLines

@@ -163,5 +163,5 @@ pub record RefusedLists : Type 0 where
   pub shortOutputOfOne : PackOnly (entry 1 1 2 ∷ []) 11 16
   pub enoughOutputOfOne : packCode (entry 1 1 2 ∷ []) 12 ≡ 0
   -- by number: 14 before 15, 15 before 16
-  pub fourteenBefore15 : readCode (packed (entry 16 0 row ∷ []) ++ bytes4 1 ++ bytes4 13) ≡ 14
+  pub fourteenBefore15 : readCode (packed (entry 16 0 row ∷ []) ++ bytes4 1 ++ bytes4 20) ≡ 14
   pub fifteenBefore16 : packCode (entry 16 0 row ∷ []) 0 ≡ 15

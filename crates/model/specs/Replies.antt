@@ -28,6 +28,8 @@ pub record QuestionReplies : Type 0 where
   pub k3 : askMeaning album 1 6 row 16384 ≡ answered (1 ∷ [])
   pub noKey : askMeaning album 1 1 row 16384 ≡ answered (0 ∷ [])
   pub refused8 : askMeaning album 2 1 2 16384 ≡ refused 8
+  pub refused9 : askMeaning album 1 8 row 16384 ≡ refused 9
+  pub refused10 : askMeaning album 1 0 0 16384 ≡ refused 10
   pub refused11 : askMeaning album 1 1 2 16383 ≡ refused 11
   pub refused6 : askMeaning tooWide 0 0 row 0 ≡ refused 6
   -- the pair replies 'none' where it holds, and nothing else; rows 0 and 2 where it breaks, not 'none' and not the
@@ -37,6 +39,8 @@ pub record QuestionReplies : Type 0 where
   pub notNone : PairMeaning album 1 2 2 16384 (answered []) → ⊥
   pub notHigherFirst : PairMeaning album 1 2 2 16384 (answered (2 ∷ 0 ∷ [])) → ⊥
   pub pairRefused8 : (r : Reply) → PairMeaning album 2 1 2 16384 r → r ≡ refused 8
+  pub pairRefused11 : (r : Reply) → PairMeaning album 1 1 2 16383 r → r ≡ refused 11
+  pub pairRefused6 : (r : Reply) → PairMeaning tooWide 0 0 row 0 r → r ≡ refused 6
   -- after an answer every work word is 0; after any refusal they are as they were
   pub zeroed : wordsAfter 0 (3 ∷ 1 ∷ []) ≡ 0 ∷ 0 ∷ []
   pub kept : (n : ℕ) → (n ≡ 0 → ⊥) → wordsAfter n (3 ∷ 1 ∷ []) ≡ 3 ∷ 1 ∷ []
@@ -115,6 +119,10 @@ pub record PackedReplies : Type 0 where
   pub entries : entriesRead behind ≡ some
   pub front : frontRead behind ≡ 7 ∷ 8 ∷ []
   pub refused14 : openMeaning lostEntry ≡ refused 14
+  pub opened15 : openMeaning (packed (entry 16 0 row ∷ [])) ≡ refused 15
+  pub noEntries15 : entriesRead (packed (entry 16 0 row ∷ [])) ≡ []
+  pub read14 : readMeaning lostEntry 0 1 ≡ refused 14
+  pub read15 : readMeaning (packed (entry 16 0 row ∷ [])) 0 1 ≡ refused 15
   pub noEntries : entriesRead lostEntry ≡ []
   pub noFront : frontRead (7 ∷ 8 ∷ drop 1 someBytes) ≡ []
   -- entry by entry, and 'end' after the last

@@ -6,7 +6,7 @@ use lib.ListN.{take, drop}
 use Rattle.columns.specs.Bound.{columnBound}
 use Rattle.model.specs.Bounds.{tableBound, rowBound, workBound, smallestFile, noParent, missing, row, fileBound}
 use Rattle.model.specs.Bytes.{byteAt, u16At, u32At, bytes2, bytes4}
-use Rattle.model.specs.Refusal.{number, orElse, firstOf}
+use Rattle.model.specs.Refusal.{number, lastRefusal, orElse, firstOf}
 use Rattle.model.specs.Reply.{Reply, refused, answered, replyOf, checkReply, askReply, pairReply, listReply}
 use Rattle.model.specs.Reply.{packReply, openReply, entriesReply}
 use Rattle.model.specs.Album.{album}
@@ -42,6 +42,8 @@ pub record ByteOrder : Type 0 where
   pub readPast : u32At (9 ∷ 1 ∷ 2 ∷ []) 1 ≡ 513
   pub write2 : bytes2 513 ≡ 1 ∷ 2 ∷ []
   pub write4 : bytes4 67305985 ≡ 1 ∷ 2 ∷ 3 ∷ 4 ∷ []
+  pub lowest2 : bytes2 197121 ≡ 1 ∷ 2 ∷ []
+  pub lowest4 : bytes4 21542142465 ≡ 1 ∷ 2 ∷ 3 ∷ 4 ∷ []
   -- the album's table 0: columns, parent table, rows, and its rows 5, 5 and missing
   pub albumRoot : take 24 album
       ≡ 1 ∷ 0 ∷ 255 ∷ 255 ∷ 3 ∷ 0
@@ -72,6 +74,7 @@ pub record RefusalNumbers : Type 0 where
   pub noList : number NoList ≡ 14
   pub badEntry : number BadEntry ≡ 15
   pub outputTooShort : number OutputTooShort ≡ 16
+  pub last : _≡_ {A = ℕ} lastRefusal 16
 
 -- a refusal returns its number alone, an answer its values
 pub record AnswerValues : Type 0 where
