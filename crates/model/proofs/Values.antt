@@ -1,4 +1,5 @@
 -- The document's numbers, by computation.
+use native.Mathlib.Omega.{arith}
 use mathlib.Core.Path.{refl}
 use mathlib.Core.List.{[], _∷_}
 use Rattle.columns.proofs.Test.{ifEq-no}
@@ -32,6 +33,8 @@ byte-order =
       write4 = refl;
       lowest2 = refl;
       lowest4 = refl;
+      bytes = (omega arith, (omega arith, tt));
+      notBytes = λ h. absurd (omega (arith, h .0));
       albumRoot = refl;
       albumBelow = refl;
       albumTrailer = refl;

@@ -5,7 +5,7 @@ use mathlib.Core.List.{List, [], _∷_}
 use lib.ListN.{take, drop}
 use Rattle.columns.specs.Bound.{columnBound}
 use Rattle.model.specs.Bounds.{tableBound, rowBound, workBound, smallestFile, noParent, missing, row, fileBound}
-use Rattle.model.specs.Bytes.{byteAt, u16At, u32At, bytes2, bytes4}
+use Rattle.model.specs.Bytes.{byteAt, u16At, u32At, bytes2, bytes4, Bytes}
 use Rattle.model.specs.Refusal.{number, lastRefusal, orElse, firstOf}
 use Rattle.model.specs.Reply.{Reply, refused, answered, replyOf, checkReply, askReply, pairReply, listReply}
 use Rattle.model.specs.Reply.{packReply, openReply, entriesReply}
@@ -44,6 +44,9 @@ pub record ByteOrder : Type 0 where
   pub write4 : bytes4 67305985 ≡ 1 ∷ 2 ∷ 3 ∷ 4 ∷ []
   pub lowest2 : bytes2 197121 ≡ 1 ∷ 2 ∷ []
   pub lowest4 : bytes4 21542142465 ≡ 1 ∷ 2 ∷ 3 ∷ 4 ∷ []
+  -- a byte is below 256
+  pub bytes : Bytes (0 ∷ 255 ∷ [])
+  pub notBytes : Bytes (256 ∷ []) → ⊥
   -- the album's table 0: columns, parent table, rows, and its rows 5, 5 and missing
   pub albumRoot : take 24 album
       ≡ 1 ∷ 0 ∷ 255 ∷ 255 ∷ 3 ∷ 0
