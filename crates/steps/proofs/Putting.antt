@@ -14,7 +14,7 @@ use Rattle.model.specs.Rights.{rightAt}
 use Rattle.rights.specs.Rights.{entriesOfMask, lowest}
 use Rattle.rights.proofs.Mask.{entries-lowest, lowest-le, lowest-bit}
 use Rattle.passing.specs.declared.Walk.{Walk}
-use Rattle.steps.specs.Putting.{Puttable, putFrom}
+use Rattle.steps.specs.Putting.{Puttable, withPending, putFrom}
 use Rattle.steps.specs.declared.Stepped.the-variants.{Put}
 
 -- what is pending is put, the lowest right first
@@ -42,21 +42,7 @@ module _ (w : Walk) (p : Puttable w) where
 
   -- what is put, from the number of the right and the power of its bit
   pub put-is : {r b : ℕ} → r ≡ rightAt (w .members) (lowest (w .pending)) → b ≡ 2 ^ lowest (w .pending)
-      → Put (entry (w .target) (w .left) r)
-      (record {
-        target = w .target;
-        left = w .left;
-        members = w .members;
-        held = w .held;
-        own = w .own;
-        place = w .place;
-        budget = w .budget;
-        room = w .room;
-        passed = w .passed;
-        count = w .count;
-        pending = w .pending - b;
-      })
-      ≡ putFrom w
+      → Put (entry (w .target) (w .left) r) (withPending w (w .pending - b)) ≡ putFrom w
   unfolding putFrom
   put-is e q = rw e (rw q refl)
 

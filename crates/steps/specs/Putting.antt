@@ -17,11 +17,10 @@ pub record Puttable (w : Walk) : Type 0 where
   pub some : 0 < w .pending
   pub pending : w .pending < 2 ^ suc (w .members)
 
--- the entry of the lowest pending right, and the walk without it
-unfoldable pub putFrom : Walk → Stepped
-putFrom w =
-    Put (entry (w .target) (w .left) (rightAt (w .members) (lowest (w .pending))))
-    (record {
+-- the walk with other rights pending
+abbrev pub withPending : Walk → ℕ → Walk
+withPending w mask =
+    record {
       target = w .target;
       left = w .left;
       members = w .members;
@@ -32,5 +31,11 @@ putFrom w =
       room = w .room;
       passed = w .passed;
       count = w .count;
-      pending = w .pending - 2 ^ lowest (w .pending);
-    })
+      pending = mask;
+    }
+
+-- the entry of the lowest pending right, and the walk without it
+unfoldable pub putFrom : Walk → Stepped
+putFrom w =
+    Put (entry (w .target) (w .left) (rightAt (w .members) (lowest (w .pending))))
+    (withPending w (w .pending - 2 ^ lowest (w .pending)))
