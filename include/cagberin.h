@@ -1,8 +1,8 @@
 /*
  * cagberin.h - what determines what in a media catalogue.
  *
- * A media catalogue is a file of tables in a tree. The calls check one, say whether a dependency holds in it, give
- * two rows that break one, list all minimal dependencies and keys in steps, and pack and read such lists.
+ * A media catalogue is a file of tables in a tree. The calls check one, say whether a dependency holds in it, give the
+ * first two rows that break one, list all minimal dependencies and keys in steps, and pack and read such lists.
  * examples/c/example.c makes each call.
  *
  * Link with libhost.a, an archive for x86-64 Linux. Of the outside it needs memcpy and memset, nothing else.
@@ -157,10 +157,11 @@ int32_t cagberin_ask(const uint8_t *cat, size_t cat_len, uint32_t target, uint32
                      uint32_t *work, size_t words);
 
 /*
- * Looks for a breaking pair: two rows of the target that agree on the left and disagree on the right.
+ * Looks for the first breaking pair. A breaking pair is two rows of the target, the lower row first, that agree on the
+ * left and disagree on the right; the first is the one with the lowest first row and, of those, the lowest second row.
  *
- * Returns 1 if there is one, so the dependency doesn't hold, with such rows in *first and *second, the lower row
- * first; any such pair may come. Returns 0 if there is none, so the dependency holds; *first and *second are then
+ * Returns 1 if there is one, so the dependency doesn't hold, with its rows in *first and *second: always the same two
+ * for the same catalogue and question. Returns 0 if there is none, so the dependency holds; *first and *second are then
  * unaltered. After 1 and 0 every work word is 0.
  * Refusals: -1 to -11; *first, *second and the work words are unaltered.
  *

@@ -1,8 +1,7 @@
-//! Document 01 in plain loops: check, question, breaking pair, full listing, listing call, packed list, the text
-//! that the listing program prints.
+//! Document 01 in plain loops, with the requests of document 02 that have landed (a): check, question, first breaking
+//! pair, full listing, listing call, packed list, the text that the listing program prints.
 //!
-//! Nothing here is fast. Each function renders one sentence or one table row of the document, in the document's
-//! order.
+//! Nothing here is fast. Each function renders one sentence or one table row of the documents, in their order.
 
 // ---- Bounds ("The catalogue file", "Order and places") ----
 
@@ -217,8 +216,8 @@ pub fn breaks(catalogue: &Catalogue, target: usize, left: u32, right: u32, x: us
         && !agree_on_right(catalogue, target, x, y, right)
 }
 
-/// A breaking pair, if there is one.
-pub fn breaking_pair(catalogue: &Catalogue, target: usize, left: u32, right: u32) -> Option<(usize, usize)> {
+/// The first breaking pair, if there is one: the lowest first row, then the lowest second row.
+pub fn first_pair(catalogue: &Catalogue, target: usize, left: u32, right: u32) -> Option<(usize, usize)> {
     let rows = catalogue.tables[target].rows.len();
     for x in 0..rows {
         for y in x + 1..rows {
@@ -232,7 +231,7 @@ pub fn breaking_pair(catalogue: &Catalogue, target: usize, left: u32, right: u32
 
 /// "A dependency holds if all pairs of rows that agree on the left agree on the right."
 pub fn holds(catalogue: &Catalogue, target: usize, left: u32, right: u32) -> bool {
-    breaking_pair(catalogue, target, left, right).is_none()
+    first_pair(catalogue, target, left, right).is_none()
 }
 
 /// Whether the left and right stand in the full listing: "It is minimal if the right isn't in the left
@@ -286,7 +285,7 @@ pub fn ask(catalogue: &Catalogue, target: u32, left: u32, right: u32, work: &mut
     Ok(answer)
 }
 
-/// The breaking pair, lower row first, or none. After an answer every work word is 0.
+/// The first breaking pair, lower row first, or none. After an answer every work word is 0.
 pub fn pair(
     catalogue: &Catalogue,
     target: u32,
@@ -295,7 +294,7 @@ pub fn pair(
     work: &mut [u32],
 ) -> Result<Option<(usize, usize)>, Refusal> {
     refused_question(catalogue, target, left, right, work.len())?;
-    let answer = breaking_pair(catalogue, target as usize, left, right);
+    let answer = first_pair(catalogue, target as usize, left, right);
     work.fill(0);
     Ok(answer)
 }

@@ -75,6 +75,20 @@ fn cases_k1_to_k9() {
     assert!(!answer(&equal, 1, 3, ROW));
 }
 
+/// The lowest first row, then the lowest second row.
+#[test]
+fn the_first_breaking_pair() {
+    let first = |rows: &[(u16, &[u32])]| {
+        let file = file(&[(2, ROOT, rows)]);
+        pair(&check(&file).unwrap(), 0, 1, 1, &mut words()).unwrap()
+    };
+    let row = |codes| (ROOT, codes);
+    let (a, b, c, d, e): (&[u32], &[u32], &[u32], &[u32], &[u32]) = (&[1, 1], &[1, 2], &[1, 3], &[2, 1], &[2, 2]);
+    assert_eq!(first(&[row(a), row(d), row(e), row(b), row(c)]), Some((0, 3)));
+    assert_eq!(first(&[row(d), row(a), row(a), row(b), row(c)]), Some((1, 3)));
+    assert_eq!(first(&[row(d), row(a), row(d), row(a)]), None);
+}
+
 #[test]
 fn cases_k10_and_k11() {
     assert_eq!(left_sides(3), [0, 1, 2, 4, 3, 5, 6, 7]);

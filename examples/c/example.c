@@ -1,5 +1,5 @@
 /*
- * Checks a catalogue, asks it two questions, lists it in steps, packs the list behind it and reads the list back.
+ * Checks a catalogue, asks it four questions, lists it in steps, packs the list behind it and reads the list back.
  *
  *     gcc -std=c99 -Wall -Wextra -Werror -I include examples/c/example.c target/staticlib/libhost.a -o example
  *     ./example examples/album.cat
@@ -46,7 +46,7 @@ static void print_entry(struct cagberin_entry entry)
         printf("%d %d %d\n", entry.target, entry.left, entry.right);
 }
 
-/* Asks whether left gives right in the target, and shows the rows that break it. */
+/* Asks whether left gives right in the target, and shows the first two rows that break it. */
 static int question(size_t len, uint32_t target, uint32_t left, uint32_t right)
 {
     uint32_t first, second;
@@ -62,8 +62,8 @@ static int question(size_t len, uint32_t target, uint32_t left, uint32_t right)
     if (found < 0)
         return refused("pair", found);
     if (found == 1)
-        printf("table %u: %u doesn't give %u, rows %u and %u break it\n", (unsigned)target, (unsigned)left,
-               (unsigned)right, (unsigned)first, (unsigned)second);
+        printf("table %u: %u doesn't give %u, rows %u and %u are the first to break it\n", (unsigned)target,
+               (unsigned)left, (unsigned)right, (unsigned)first, (unsigned)second);
     return 0;
 }
 
@@ -117,7 +117,8 @@ int main(int argc, char **argv)
         return refused("check", reply);
     printf("tables %u sets %u\n", (unsigned)tables, (unsigned)sets);
 
-    if (question(len, 1, 1, 2) != 0 || question(len, 1, 2, 2) != 0)
+    if (question(len, 1, 1, 2) != 0 || question(len, 1, 2, 2) != 0 || question(len, 1, 4, 1) != 0 ||
+        question(len, 0, 0, 0) != 0)
         return 1;
 
     count = list_in_steps(len, sets);

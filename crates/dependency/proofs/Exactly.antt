@@ -1,24 +1,31 @@
 -- What the two contracts say in the words of demand 2: an answered question is 'holds' exactly if all rows that agree
--- on the left agree on the right, and the pair is 'none' exactly then.
+-- on the left agree on the right; the pair is 'none' exactly then, and otherwise the first two rows that do not.
 use Prim.Native.Nat.{ℕ}
-use mathlib.Core.Path.{_≡_, refl, sym, ap, subst, _∙_}
+use mathlib.Core.Path.{_≡_, refl, sym, ap, ap₂, _∙_}
 use mathlib.Core.Logic.{_↔_}
 use mathlib.Core.List.{List, [], _∷_}
 use mathlib.Core.Bool.{Bool, true, false}
 use native.Mathlib.Omega.{arith}
 use Rattle.columns.specs.Test.{pick}
-use Rattle.model.specs.Question.{questionCode, askMeaning, PairMeaning}
+use Rattle.model.specs.Question.{questionCode, askMeaning, pairMeaning}
 use Rattle.model.specs.Reply.{answered, askReply, pairReply}
 use Rattle.model.specs.declared.AskAnswer.{AskAnswer}
 use Rattle.model.specs.declared.AskAnswer.the-variants as ask-answer
 use Rattle.model.specs.declared.PairAnswer.{PairAnswer}
 use Rattle.model.specs.declared.PairAnswer.the-variants as pair-answer
-use Rattle.model.specs.View.{Holds, Breaks, holds}
+use Rattle.model.specs.View.{Holds, holds}
+use Rattle.model.specs.Pair.{FirstPair, firstPair}
 use Rattle.model.specs.Target.{view}
 use Rattle.model.proofs.View.{holds-true, true-holds}
-use Rattle.dependency.proofs.Replies.{ask-meant}
+use Rattle.model.proofs.Pair.{firstPair-is, none-holds}
+use Rattle.model.proofs.Target.{view-equivalence}
+use Rattle.dependency.proofs.Replies.{ask-meant, pair-meant}
 
 module _ (cat : List ℕ) (t x a w : ℕ) (z : questionCode cat t x a w ≡ 0) where
+  -- what is answered is the first pair's rows
+  rows-told : {rows : List ℕ} → answered rows ≡ pairMeaning cat t x a w → firstPair (view cat t) x a ≡ rows
+  rows-told {rows} m = let e = pair-meant cat t x a w z ∙ sym m in cc
+
   pub ask-exactly : (r : AskAnswer) → askReply r ≡ askMeaning cat t x a w → (r ≡ ask-answer.Holds)
       ↔ Holds (view cat t) x a
   ask-exactly r e =
@@ -48,34 +55,32 @@ module _ (cat : List ℕ) (t x a w : ℕ) (z : questionCode cat t x a w ≡ 0) w
           let n : _≡_ {A = ℕ} 0 1 = cc in
           absurd (omega arith)
 
-  pub pair-exactly : (r : PairAnswer) → PairMeaning cat t x a w (pairReply r) → (r ≡ pair-answer.Nothing)
+  -- the pair is 'none' exactly if the dependency holds, and two rows exactly if they are the first that break it
+  pub pair-exactly : (r : PairAnswer) → pairReply r ≡ pairMeaning cat t x a w → (r ≡ pair-answer.Nothing)
       ↔ Holds (view cat t) x a
-  pair-exactly r m =
-      (λ f. there (holds (view cat t) x a) refl f, λ h. back r (m .none z (true-holds (view cat t) x a h)))
+  pair-exactly r m = (
+    λ f. none-holds (view cat t) x a (view-equivalence cat t) .0 (rows-told (ap pairReply (sym f) ∙ m)),
+    λ h.
+        back r (m ∙ sym (pair-meant cat t x a w z)
+        ∙ ap answered (none-holds (view cat t) x a (view-equivalence cat t) .1 h)),
+  )
     where
-      there : (h : Bool) → holds (view cat t) x a ≡ h → r ≡ pair-answer.Nothing → Holds (view cat t) x a
-      there true e f = holds-true (view cat t) x a e
-      there false e f =
-          let k = m .breaking z e in
-          let g : answered [] ≡ answered (k .0 ∷ k .1 ∷ []) = sym (ap pairReply f) ∙ k .2 in
-          let n : _≡_ {A = ℕ} 0 1 = cc in
-          absurd (omega arith)
-
       back : (r : PairAnswer) → pairReply r ≡ answered [] → r ≡ pair-answer.Nothing
       back (pair-answer.Rows p q) e = let n : _≡_ {A = ℕ} 0 1 = cc in absurd (omega arith)
       back pair-answer.Nothing e = refl
       back (pair-answer.Refused q) e = let n : _≡_ {A = ℕ} 0 1 = cc in absurd (omega arith)
 
-  -- and two rows that it names break the dependency, the lower first
-  pub pair-breaks : (p q : ℕ) → PairMeaning cat t x a w (pairReply (pair-answer.Rows p q)) → Breaks (view cat t) x a p q
-  pair-breaks p q m = at (holds (view cat t) x a) refl
+  pub pair-first : (r : PairAnswer) (p q : ℕ) → pairReply r ≡ pairMeaning cat t x a w → (r ≡ pair-answer.Rows p q)
+      ↔ FirstPair (view cat t) x a p q
+  pair-first r p q m = (
+    λ f. firstPair-is (view cat t) x a p q .0 (rows-told (ap pairReply (sym f) ∙ m)),
+    λ h. back r (m ∙ sym (pair-meant cat t x a w z) ∙ ap answered (firstPair-is (view cat t) x a p q .1 h)),
+  )
     where
-      at : (h : Bool) → holds (view cat t) x a ≡ h → Breaks (view cat t) x a p q
-      at true e = let f = m .none z e in let n : _≡_ {A = ℕ} 0 1 = cc in absurd (omega arith)
-      at false e =
-          let k = m .breaking z e in
-          let f = k .2 in
-          let one : k .0 ≡ p = cc in
-          let other : k .1 ≡ q = cc in
-          subst (λ (j : ℕ). Breaks (view cat t) x a p j) other
-          (subst (λ (j : ℕ). Breaks (view cat t) x a j (k .1)) one (k .3))
+      back : (r : PairAnswer) → pairReply r ≡ answered (p ∷ q ∷ []) → r ≡ pair-answer.Rows p q
+      back (pair-answer.Rows m n) e =
+          let f : m ≡ p = cc in
+          let g : n ≡ q = cc in
+          ap₂ pair-answer.Rows f g
+      back pair-answer.Nothing e = let n : _≡_ {A = ℕ} 0 1 = cc in absurd (omega arith)
+      back (pair-answer.Refused q) e = let n : _≡_ {A = ℕ} 0 1 = cc in absurd (omega arith)

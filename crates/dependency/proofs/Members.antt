@@ -1,7 +1,7 @@
 -- The members that a question looks at, and what is told of it by their keys.
 use Prim.Native.Nat.{ℕ, _^_, _≤_, _<_}
 use mathlib.Core.Path.{_≡_, refl, sym, ap, subst, _∙_}
-use mathlib.Core.Logic.{_↔_, inl, inr}
+use mathlib.Core.Logic.{inl, inr}
 use mathlib.Core.List.{List}
 use mathlib.Core.Bool.{Bool, true, false, not}
 use native.Mathlib.Decide.{ℕ-discrete}
@@ -17,18 +17,16 @@ use Rattle.columns.proofs.Test.{ifEq-yes, ifEq-no}
 use Rattle.model.specs.Bounds.{row, rowBound}
 use Rattle.model.specs.Catalogue.{rows, visible}
 use Rattle.model.specs.View.{View, Within, holds}
+use Rattle.model.specs.Pair.{firstPair}
 use Rattle.model.specs.Target.{view}
 use Rattle.model.proofs.Check.{accepted-visible, accepted-rows}
 use Rattle.model.specs.Rights.{rightAt}
 use Rattle.table.proofs.Bits.{bit-none, bit-power-same, bit-power-other, bit-with-same, bit-with-other}
 use Rattle.table.proofs.Table.{right-row, right-column, bit-zero-if}
 use Rattle.leaders.specs.Keys.{keyView, LaidFor, Keyed}
-use Rattle.leaders.proofs.Keys.{KeyedRight, keyed-holds}
+use Rattle.leaders.proofs.Keys.{KeyedRight, keyed-holds, keyed-pair}
 use Rattle.keys.proofs.Catalogue.{laid-catalogue}
 use Rattle.partition.specs.Partition.{Given}
-use Rattle.search.specs.Strays.{FirstBreaking}
-use Rattle.search.specs.declared.Found.{Found}
-use Rattle.search.proofs.Pairs.{keyed-breaking}
 use Rattle.dependency.specs.Posed.{Posed, membersAsked, rightBit}
 
 -- the members
@@ -153,9 +151,9 @@ module _ {b : List ℕ} {t x a : ℕ} (posed : Posed b t x a) where
       given-holds n a (posed-right e) keys end x r (subst (λ (m : ℕ). Given keys n end x m r) g given)
       (keyed-by e f keyed)
 
-  pub posed-breaking : {n end : ℕ} {keys : List ℕ} (found : Found) → n ≡ visible b t → end ≡ rows b t
-      → Keyed (view b t) (membersAsked x a) (visible b t) (rows b t) keys → FirstBreaking (keyView keys n end) x a found
-      → FirstBreaking (view b t) x a found
-  posed-breaking {n} {end} {keys} found e f keyed first =
-      keyed-breaking (keyed-by e f keyed) x a (left-within x a (keyView keys n end)) (right-keyed x a n (posed-right e))
-      found first
+  pub posed-pair : {n end : ℕ} {keys : List ℕ} → n ≡ visible b t → end ≡ rows b t
+      → Keyed (view b t) (membersAsked x a) (visible b t) (rows b t) keys
+      → firstPair (keyView keys n end) x a ≡ firstPair (view b t) x a
+  posed-pair {n} {end} {keys} e f keyed =
+      sym
+      (keyed-pair (keyed-by e f keyed) x a (left-within x a (keyView keys n end)) (right-keyed x a n (posed-right e)))

@@ -1,8 +1,8 @@
 -- What a question's code says: which refusal it is, what is known where there is none, and what is then replied.
 use Prim.Native.Nat.{ℕ, _^_, _≤_, _<_}
-use mathlib.Core.Path.{_≡_, refl, sym, ap, _∙_}
+use mathlib.Core.Path.{_≡_, sym, ap, _∙_}
 use mathlib.Core.List.{List, [], _∷_}
-use mathlib.Core.Bool.{Bool, true, false}
+use mathlib.Core.Bool.{Bool}
 use native.Mathlib.Omega.{arith}
 use lib.Dec.{lit≤}
 use lib.ListN.{length, replicate}
@@ -16,13 +16,12 @@ use Rattle.model.specs.declared.Refusal.{Refusal}
 use Rattle.model.specs.declared.Refusal.the-variants.{FileTooShort, TooFewWords, UnknownRight}
 use Rattle.model.specs.Reply.{refused, answered, wordsAfter}
 use Rattle.model.specs.Question.{targetCode, leftSideCode, rightSideCode, sidesCode, wordsCode}
-use Rattle.model.specs.Question.{questionCode, askMeaning, PairMeaning}
-use Rattle.model.specs.View.{Breaks, holds}
+use Rattle.model.specs.Question.{questionCode, askMeaning, pairMeaning}
+use Rattle.model.specs.View.{holds}
+use Rattle.model.specs.Pair.{firstPair}
 use Rattle.model.specs.Target.{view}
 use Rattle.model.proofs.Grounds.{orElse-left, orElse-both, ifLt-passes, ifLt-fails, ifEq-le, ifLt-le, orElse-le}
 use Rattle.model.proofs.Grounds.{reply-refused, reply-answered}
-use Rattle.model.proofs.Target.{view-equivalence}
-use Rattle.model.proofs.View.{true-holds, no-breaks-holds, breaks-holds-false}
 use Rattle.grounds.proofs.Sound.{check-code-le}
 use Rattle.dependency.specs.Posed.{Posed}
 
@@ -80,49 +79,24 @@ module _ (cat : List ℕ) (target left right words : ℕ) where
   unfolding askMeaning
   ask-meant z = reply-answered _ z
 
-  no-breaks-true : ((p q : ℕ) → Breaks (view cat target) left right p q → ⊥) → holds (view cat target) left right ≡ true
-  no-breaks-true none =
-      true-holds (view cat target) left right
-      (no-breaks-holds (view cat target) (view-equivalence cat target) left right none)
-
   pub ask-told : {code : ℕ} (told : Bool) → code ≡ questionCode cat target left right words → code ≡ 0
       → told ≡ holds (view cat target) left right
       → answered (pick told 1 0 ∷ []) ≡ askMeaning cat target left right words
   ask-told told e z f = ap (λ (h : Bool). answered (pick h 1 0 ∷ [])) f ∙ ask-meant (sym e ∙ z)
 
   pub pair-refused : {code : ℕ} (r : Refusal) → code ≡ questionCode cat target left right words → (code ≡ 0 → ⊥)
-      → number r ≡ code → PairMeaning cat target left right words (refused (number r))
-  pair-refused r e n f =
-      record {
-        isRefused = λ m. ap refused (f ∙ e);
-        none = λ z h. absurd (n (e ∙ z));
-        breaking = λ z h. absurd (n (e ∙ z));
-      }
+      → number r ≡ code → refused (number r) ≡ pairMeaning cat target left right words
+  unfolding pairMeaning
+  pair-refused r e n f = reply-refused _ (f ∙ e) (λ z. n (sym f ∙ z))
 
-  pub pair-none : {code : ℕ} → code ≡ questionCode cat target left right words → code ≡ 0
-      → ((p q : ℕ) → Breaks (view cat target) left right p q → ⊥)
-      → PairMeaning cat target left right words (answered [])
-  pair-none e z none =
-      record {
-        isRefused = λ m. absurd (m (sym e ∙ z));
-        none = λ _ h. refl;
-        breaking = λ _ h. absurd (true-false (sym (no-breaks-true none) ∙ h));
-      }
-    where
-      true-false : true ≡ false → ⊥
-      true-false e = let k : _≡_ {A = ℕ} 0 1 = cc in omega arith
+  pub pair-meant : questionCode cat target left right words ≡ 0
+      → answered (firstPair (view cat target) left right) ≡ pairMeaning cat target left right words
+  unfolding pairMeaning
+  pair-meant z = reply-answered _ z
 
-  pub pair-breaking : {code p q : ℕ} → code ≡ questionCode cat target left right words → code ≡ 0
-      → Breaks (view cat target) left right p q → PairMeaning cat target left right words (answered (p ∷ q ∷ []))
-  pair-breaking {p} {q} e z h =
-      record {
-        isRefused = λ m. absurd (m (sym e ∙ z));
-        none = λ _ g. absurd (false-true (sym (breaks-holds-false h) ∙ g));
-        breaking = λ _ g. (p, q, refl, h);
-      }
-    where
-      false-true : false ≡ true → ⊥
-      false-true e = let k : _≡_ {A = ℕ} 0 1 = cc in omega arith
+  pub pair-told : {code : ℕ} {told : List ℕ} → code ≡ questionCode cat target left right words → code ≡ 0
+      → told ≡ firstPair (view cat target) left right → answered told ≡ pairMeaning cat target left right words
+  pair-told e z f = ap answered f ∙ pair-meant (sym e ∙ z)
 
 -- the work words afterwards
 module _ (cat : List ℕ) (target left right : ℕ) (words : List ℕ) where

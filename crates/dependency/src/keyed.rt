@@ -5,10 +5,11 @@ ghost use lib.ListN.{length};
 ghost use Rattle.columns.specs.Bound.{columnBound};
 ghost use Rattle.model.specs.Bounds.{row};
 ghost use Rattle.model.specs.Catalogue.{rows as rowsOf, visible as visibleOf};
+ghost use Rattle.model.specs.Pair.{firstPair};
 ghost use Rattle.model.specs.Target.{view};
 ghost use Rattle.model.specs.View.{holds as holdsIn};
 ghost use Rattle.leaders.specs.Keys.{Keyed, keysSize};
-ghost use Rattle.search.specs.Strays.{FirstBreaking};
+ghost use Rattle.search.specs.Strays.{rowsFound};
 ghost use Rattle.dependency.specs.Posed.{Posed, membersAsked, rightBit};
 use bits::power;
 use keys::lay;
@@ -80,7 +81,7 @@ pub fn holds(cat: &[u8], target: u32, left: u32, right: u32) -> bool
 // The first two rows that break it.
 pub fn breaking_pair(cat: &[u8], target: u32, left: u32, right: u32) -> Found
     requires { ⌜ Posed (now cat) target left right ⌝ }
-    ensures { λ r. ⌜ FirstBreaking (view (now (cat .entry)) target) left right r ⌝ }
+    ensures { λ r. ⌜ rowsFound r ≡ firstPair (view (now (cat .entry)) target) left right ⌝ }
 {
     let mut keys = [0u16; SIZE];
     lay_question(cat, target, left, right, &mut keys);

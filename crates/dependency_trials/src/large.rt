@@ -19,6 +19,19 @@ pub fn trial_flat(name: &[u8], r: u32, left: u32, right: u32) {
     on_flat(name, r, left, right, &mut bytes);
 }
 
+// A trial of the key on one table of 16 columns and 4,096 rows, in which two rows have the codes of two others.
+fn on_recoded(name: &[u8], rows: [u32; 2], others: [u32; 2], bytes: &mut [u8]) {
+    let n = trial_kit::flat(bytes, 16, 4096);
+    trial_kit::recode(bytes, rows[1], rows[0]);
+    trial_kit::recode(bytes, others[1], others[0]);
+    trial_front(name, n, 0, 1, 255, bytes);
+}
+
+pub fn trial_recoded(name: &[u8], rows: [u32; 2], others: [u32; 2]) {
+    let mut bytes = [0u8; 270418];
+    on_recoded(name, rows, others, &mut bytes);
+}
+
 // A trial on the last of sixteen tables with 4,096 rows, each under the one before.
 fn on_deep(name: &[u8], left: u32, right: u32, bytes: &mut [u8]) {
     let n = trial_kit::deep(bytes, 16, 4096);

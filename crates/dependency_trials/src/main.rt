@@ -1,15 +1,17 @@
-// Runs the proved cases K1 to K9 and the boundary cases of the question and of the breaking pair through the compiled
-// calls, and prints what came back.
+// Runs the proved cases K1 to K9 and the boundary cases of the question and of the first breaking pair through the
+// compiled calls, and prints what came back.
 mod large;
 mod print;
 
 use large::trial_deep;
 use large::trial_flat;
+use large::trial_recoded;
 use print::trial;
 use print::trial_on;
 use trial_kit::ALBUM;
 use trial_kit::EMPTY;
 use trial_kit::EQUAL;
+use trial_kit::GROUPS;
 use trial_kit::LONE;
 use trial_kit::MISSING_TWICE;
 use trial_kit::THREE;
@@ -93,6 +95,18 @@ fn deep_tables() {
     trial_deep(b"16 tables, every column but the key", 65534, 255);
 }
 
+// The first of several breaking pairs: the lowest first row, then the lowest second row.
+fn first_pairs() {
+    trial(b"rows 0 3, 0 4, 1 2, 3 4", &GROUPS, 0, 1, 1);
+    trial(b"rows 0 1, 2 3", &GROUPS, 0, 2, 255);
+    trial(b"every two rows", &GROUPS, 0, 0, 255);
+    trial_recoded(b"4096 rows, the first and the last", [0, 4095], [0, 4095]);
+    trial_recoded(b"4096 rows, the last two", [4094, 4095], [4094, 4095]);
+    trial_recoded(b"4096 rows, a pair around another", [50, 4000], [100, 200]);
+    trial_recoded(b"4096 rows, a pair before another", [50, 100], [200, 4000]);
+    trial_recoded(b"4096 rows, three alike", [50, 300], [50, 200]);
+}
+
 fn main() {
     proved_cases();
     targets();
@@ -102,4 +116,5 @@ fn main() {
     ancestors();
     flat_tables();
     deep_tables();
+    first_pairs();
 }

@@ -44,7 +44,7 @@ fn asked(cat: &[u8], target: u32, left: u32, right: u32, words: usize, work: &mu
     print_zeros(work);
 }
 
-// The breaking pair, likewise.
+// The first breaking pair, likewise.
 fn pair_front(cat: &[u8], target: u32, left: u32, right: u32, words: usize, work: &mut [u32]) {
     if words <= work.len() {
         print_pair(dependency::pair(cat, target, left, right, &mut work[..words]));

@@ -3,16 +3,16 @@
 // programs; include/cagberin.h declares it.
 ghost use Prim.Native.Nat.{ℕ};
 ghost use mathlib.Core.Path.{_≡_};
-ghost use lib.IntN.{pos, negsuc};
+ghost use lib.IntN.{negsuc};
 ghost use lib.ListN.{length};
 ghost use Rattle.model.specs.Reply.{wordsAfter};
 ghost use Rattle.model.specs.Check.{checkMeaning};
-ghost use Rattle.model.specs.Question.{questionCode, askMeaning, PairMeaning};
+ghost use Rattle.model.specs.Question.{questionCode, askMeaning, pairMeaning};
 ghost use Rattle.model.specs.List.{ListMeaning};
 ghost use Rattle.model.specs.Packing.{packMeaning, outputAfter};
 ghost use Rattle.model.specs.Reading.{openMeaning, readMeaning, runRead};
 ghost use Rattle.model.specs.Calls.{seen};
-ghost use Rattle.numbers.specs.Number.{numberOf, valueOr, statusOf, pairSeen, listSeen};
+ghost use Rattle.numbers.specs.Number.{numberOf, valueOr, statusOf, foundOf, listSeen};
 use model::AskAnswer;
 use model::CheckAnswer;
 use model::Entry;
@@ -58,8 +58,8 @@ pub extern "C" fn cagberin_ask(
     }
 }
 
-// 1 with two rows that break the dependency, the lower first, or 0 where it holds; the two are written only with 1.
-// The work words as above.
+// 1 with the first two rows that break the dependency (lowest first row, then lowest second row), or 0 where it holds;
+// the two are written only with 1. The work words as above.
 #[no_mangle]
 pub extern "C" fn cagberin_pair(
     cat: &[u8],
@@ -70,10 +70,15 @@ pub extern "C" fn cagberin_pair(
     first: &mut u32,
     second: &mut u32,
 ) -> i32
-    ensures { λ r. ⌜ PairMeaning (now (cat .entry)) target left right (length (now (work .entry)))
-        (pairSeen r (now (first .exit)) (now (second .exit))) ⌝ }
-    ensures { λ r. ⌜ ((r ≡ pos 1 → ⊥)
-        → (now (first .exit) ≡ now (first .entry)) × (now (second .exit) ≡ now (second .entry))) ⌝ }
+    ensures { λ r. ⌜ r ≡ foundOf (pairMeaning (now (cat .entry)) target left right (length (now (work .entry)))) ⌝ }
+    ensures { λ _.
+        ⌜ now (first .exit)
+        ≡ valueOr 0 (now (first .entry))
+        (pairMeaning (now (cat .entry)) target left right (length (now (work .entry)))) ⌝ }
+    ensures { λ _.
+        ⌜ now (second .exit)
+        ≡ valueOr 1 (now (second .entry))
+        (pairMeaning (now (cat .entry)) target left right (length (now (work .entry)))) ⌝ }
     ensures { λ _.
         ⌜ now (work .exit)
         ≡ wordsAfter (questionCode (now (cat .entry)) target left right (length (now (work .entry))))

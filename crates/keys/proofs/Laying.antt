@@ -24,7 +24,7 @@ use Rattle.model.proofs.Ancestors.{agree-own, agree-above, inherited-root, inhe
 use Rattle.table.proofs.Bits.{bit-none}
 use Rattle.leaders.specs.Leaders.{leaderOf}
 use Rattle.leaders.specs.Keys.{keysSize, keyAt, LaidFor}
-use Rattle.leaders.proofs.Leaders.{firstFrom-same}
+use Rattle.model.proofs.First.{firstFrom-same}
 use Rattle.leaders.proofs.Keys.{agreeOn-one}
 use Rattle.filled.specs.Filled.{Filled}
 use Rattle.filled.proofs.Filled.{filled-first}

@@ -12,7 +12,7 @@ use Rattle.columns.proofs.Test.{ifEq-yes, ifEq-no}
 use Rattle.model.specs.Bounds.{rowBound, missing}
 use Rattle.model.specs.Target.{cellsAgree}
 use Rattle.leaders.specs.Keys.{firstSame}
-use Rattle.leaders.proofs.Leaders.{firstFrom-same}
+use Rattle.model.proofs.First.{firstFrom-same}
 use Rattle.filled.specs.Filled.{Filled}
 use Rattle.filled.proofs.Below.{below-more}
 use Rattle.filled.proofs.Filled.{filled-none, filled-more, filled-first}

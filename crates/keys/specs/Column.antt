@@ -11,7 +11,7 @@ use Rattle.model.specs.Bounds.{rowBound, missing}
 use Rattle.model.specs.Bytes.{u32At}
 use Rattle.model.specs.View.{In}
 use Rattle.model.specs.Target.{cellsAgree}
-use Rattle.leaders.specs.Leaders.{firstFrom}
+use Rattle.model.specs.First.{firstFrom}
 use Rattle.leaders.specs.Keys.{keyAt}
 
 -- the code of row x

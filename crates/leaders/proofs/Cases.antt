@@ -6,7 +6,8 @@ use lib.Dec.{eqb}
 use lib.ListN.{getD, replicate}
 use Rattle.model.specs.Bounds.{rowBound}
 use Rattle.model.specs.View.{View, agreeOn, allBelow}
-use Rattle.leaders.specs.Leaders.{firstFrom, leaderOf}
+use Rattle.model.specs.First.{firstFrom}
+use Rattle.leaders.specs.Leaders.{leaderOf}
 use Rattle.leaders.specs.Keys.{keyView, firstSame}
 
 -- what the rows have on member 0, and on member 1

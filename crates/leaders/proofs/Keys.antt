@@ -1,5 +1,5 @@
 -- Keys that are right for a view tell all that the view tells of rows on the members of their set: leaders, what
--- holds, agree sets, minimal rights.
+-- holds, which rows break it, agree sets, minimal rights.
 use Prim.Native.Nat.{ℕ, zero, suc, _-_, _^_, _≤_, _<_}
 use mathlib.Core.Path.{_≡_, refl, sym, ap, ap₂, subst, _∙_}
 use mathlib.Core.Logic.{_⊎_, inl, inr, _↔_}
@@ -16,9 +16,11 @@ use Rattle.columns.proofs.Bits.{bit-full}
 use Rattle.columns.proofs.SetBelow.{setBelow-same}
 use Rattle.model.specs.Bounds.{rowBound, row}
 use Rattle.model.specs.View.{View, Equivalence, In, isIn, Within, AgreeOn, agreeOn, agreeRight, holds, minimal}
-use Rattle.model.specs.View.{allBelow}
+use Rattle.model.specs.View.{Breaks, allBelow}
+use Rattle.model.specs.Pair.{firstPair}
 use Rattle.model.proofs.Truth.{eqb-is, same-test}
-use Rattle.model.proofs.View.{isIn-is, without-within}
+use Rattle.model.proofs.View.{isIn-is, agreeOn-is, without-within}
+use Rattle.model.proofs.Pair.{same-pair}
 use Rattle.table.specs.Broken.{agreeSetOf, Occurs, Table, minimalMask}
 use Rattle.model.specs.Rights.{rightAt}
 use Rattle.table.proofs.Bits.{bit-power-same, bit-power-other}
@@ -110,6 +112,38 @@ module _ {v : View} {set n end : ℕ} {keys : List ℕ} (keyed : Keyed v set n e
     where
       w : View
       w = keyView keys n end
+
+  -- the same rows break a dependency, so the first of them are the same
+  pub keyed-pair : (y a : ℕ) → Within (keyView keys n end) y set → KeyedRight n set a
+      → firstPair v y a ≡ firstPair (keyView keys n end) y a
+  keyed-pair y a within right = same-pair v w y y a a (λ p q. (there p q, back p q))
+    where
+      w : View
+      w = keyView keys n end
+
+      there : (p q : ℕ) → Breaks v y a p q → Breaks w y a p q
+      there p q b =
+          let l = b .lower in
+          let h : q < end = omega (arith, b .exists, keyed .rows) in
+          record {
+            lower = l;
+            exists = h;
+            left = agreeOn-is w y p q .0
+                (subst T (keyed-agreeOn y p q within (omega arith) h) (agreeOn-is v y p q .1 (b .left)));
+            right = λ t. b .right (subst T (sym (keyed-right a p q right (omega arith) h)) t);
+          }
+
+      back : (p q : ℕ) → Breaks w y a p q → Breaks v y a p q
+      back p q b =
+          let l = b .lower in
+          let h = b .exists in
+          record {
+            lower = l;
+            exists = omega (arith, keyed .rows);
+            left = agreeOn-is v y p q .0
+                (subst T (sym (keyed-agreeOn y p q within (omega arith) h)) (agreeOn-is w y p q .1 (b .left)));
+            right = λ t. b .right (subst T (keyed-right a p q right (omega arith) h) t);
+          }
 
   pub keyed-minimal : (y a : ℕ) → Within (keyView keys n end) y set → KeyedRight n set a
       → minimal v y a ≡ minimal (keyView keys n end) y a

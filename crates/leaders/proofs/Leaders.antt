@@ -1,70 +1,27 @@
 -- What leaders tell, over any view in which agreement is an equivalence: which rows agree, what holds, what is a key,
 -- and which two rows are the first to break a dependency.
-use Prim.Native.Nat.{ℕ, zero, suc, _+_, _≤_, _<_}
-use mathlib.Core.Path.{_≡_, refl, sym, ap₂, subst}
+use Prim.Native.Nat.{ℕ, _≤_, _<_}
+use mathlib.Core.Path.{_≡_, sym, subst}
 use mathlib.Core.Logic.{_⊎_, inl, inr, _↔_}
-use mathlib.Core.Bool.{Bool, true, false}
+use mathlib.Core.Bool.{false}
 use native.Mathlib.Decide.{ℕ-discrete, decLt}
 use native.Mathlib.Omega.{arith}
 use lib.Dec.{T}
 use Rattle.columns.specs.Bound.{columnBound}
 use Rattle.columns.specs.Set.{bit}
-use Rattle.columns.specs.Test.{pick}
 use Rattle.model.specs.Bounds.{row}
+use Rattle.model.specs.First.{firstFrom}
+use Rattle.model.specs.Pair.{FirstPair}
 use Rattle.model.specs.View.{View, Equivalence, AgreeOn, agreeOn, agreeRight, Holds, holds, Key, Breaks}
 use Rattle.model.proofs.Truth.{decided, eqb-is}
+use Rattle.model.proofs.First.{FirstThat, firstFrom-is}
 use Rattle.model.proofs.View.{agreeOn-is, agreeOn-reflexive, agreeOn-symmetric, agreeOn-transitive}
 use Rattle.model.proofs.View.{agreeRight-reflexive, agreeRight-symmetric, agreeRight-transitive}
 use Rattle.model.proofs.View.{not-holds-breaks, breaks-holds-false}
 use Rattle.table.specs.Broken.{agreeSetOf}
 use Rattle.model.specs.Rights.{rightAt}
 use Rattle.table.proofs.Table.{right-agreed, right-lacked}
-use Rattle.leaders.specs.Leaders.{firstFrom, leaderOf, Leader, Strays, LeadsItself, AllLead}
-
--- r is the first of the n numbers from i on that passes a test, or the one behind them
-pub record FirstThat (test : ℕ → Bool) (n i r : ℕ) : Type 0 where
-  pub low : i ≤ r
-  pub high : r ≤ i + n
-  pub passes : r < i + n → T (test r)
-  pub lowest : (j : ℕ) → i ≤ j → j < r → T (test j) → ⊥
-
-pub firstFrom-is : (test : ℕ → Bool) (n i : ℕ) → FirstThat test n i (firstFrom test n i)
-unfolding firstFrom
-firstFrom-is test zero i = record {
-  low = omega arith;
-  high = omega arith;
-  passes = λ l. absurd (omega arith);
-  lowest = λ j l m. absurd (omega arith);
-}
-firstFrom-is test (suc n) i = at (test i) refl (firstFrom-is test n (suc i))
-  where
-    at : (t : Bool) → test i ≡ t → FirstThat test n (suc i) (firstFrom test n (suc i))
-        → FirstThat test (suc n) i (pick t i (firstFrom test n (suc i)))
-    at true e f = record {
-      low = omega arith;
-      high = omega arith;
-      passes = λ l. subst T (sym e) tt;
-      lowest = λ j l m. absurd (omega arith);
-    }
-    at false e f = let low = f .low in let high = f .high in record {
-      low = omega arith;
-      high = omega arith;
-      passes = λ l. f .passes (omega arith);
-      lowest = λ j l m t. below j l m t (ℕ-discrete j i);
-    }
-      where
-        below : (j : ℕ) → i ≤ j → j < firstFrom test n (suc i) → T (test j) → Dec (j ≡ i) → ⊥
-        below j l m t (yes s) = subst T e (subst (λ (k : ℕ). T (test k)) s t)
-        below j l m t (no d) = f .lowest j (omega arith) m t
-
--- tests that say the same have the same first
-pub firstFrom-same : (f g : ℕ → Bool) (n i : ℕ) → ((j : ℕ) → i ≤ j → j < i + n → f j ≡ g j)
-    → firstFrom f n i ≡ firstFrom g n i
-unfolding firstFrom
-firstFrom-same f g zero i same = refl
-firstFrom-same f g (suc n) i same =
-    ap₂ (λ (t : Bool) (r : ℕ). pick t i r) (same i (omega arith) (omega arith))
-    (firstFrom-same f g n (suc i) (λ j l m. same j (omega arith) (omega arith)))
+use Rattle.leaders.specs.Leaders.{leaderOf, Leader, Strays, LeadsItself, AllLead}
 
 pub leader-le : (v : View) (x q : ℕ) → leaderOf v x q ≤ q
 unfolding leaderOf
@@ -186,18 +143,19 @@ module _ (v : View) (eq : Equivalence v) where
   pub first-pair : (x a p q : ℕ) → Strays v x a q → p ≡ leaderOf v x q
       → ((r : ℕ) → leaderOf v x r < p → Strays v x a r → ⊥)
       → ((r : ℕ) → r < q → leaderOf v x r ≡ p → Strays v x a r → ⊥)
-      → Breaks v x a p q × ((m n : ℕ) → (m < p) ⊎ ((m ≡ p) × (n < q)) → Breaks v x a m n → ⊥)
-  first-pair x a p q s e lower earlier = (
-    subst (λ (r : ℕ). Breaks v x a r q) (sym e) (strays-breaks x a q s),
-    λ m n before b. let r =
-        breaks-strays x a m n b in at m n (r .0) before (r .1) (r .2) (r .3) (decLt (leaderOf v x (r .0)) p),
-  )
+      → FirstPair v x a p q
+  first-pair x a p q s e lower earlier =
+      record {
+        breaks = subst (λ (r : ℕ). Breaks v x a r q) (sym e) (strays-breaks x a q s);
+        first = λ m n b l. let r = breaks-strays x a m n b in lower (r .0) (omega (arith, r .2)) (r .3);
+        second = λ n b l.
+            let r = breaks-strays x a p n b in
+            at (r .0) (omega (arith, r .1)) (r .2) (r .3) (decLt (leaderOf v x (r .0)) p);
+      }
     where
-      at : (m n r : ℕ) → (m < p) ⊎ ((m ≡ p) × (n < q)) → r ≤ n → leaderOf v x r ≤ m → Strays v x a r
-          → Dec (leaderOf v x r < p) → ⊥
-      at m n r before k l t (yes i) = lower r i t
-      at m n r (inl j) k l t (no i) = i (omega arith)
-      at m n r (inr j) k l t (no i) = earlier r (omega (arith, j .1)) (omega (arith, j .0)) t
+      at : (r : ℕ) → r < q → leaderOf v x r ≤ p → Strays v x a r → Dec (leaderOf v x r < p) → ⊥
+      at r k l t (yes i) = lower r i t
+      at r k l t (no i) = earlier r k (omega arith) t
 
   -- the rights that x breaks are those that the agree sets of the rows with their leaders lack, rows that lead
   -- themselves left out

@@ -10,9 +10,10 @@ use lib.ListN.{getD}
 use Rattle.model.specs.View.{View, Equivalence, AgreeOn, agreeOn}
 use Rattle.model.proofs.Truth.{eqb-is, same-test}
 use Rattle.model.proofs.View.{agreeOn-is}
+use Rattle.model.proofs.First.{firstFrom-same}
 use Rattle.leaders.specs.Leaders.{leaderOf}
 use Rattle.leaders.specs.Keys.{firstSame}
-use Rattle.leaders.proofs.Leaders.{firstFrom-same, leader-is, leader-le, leader-least, same-leader}
+use Rattle.leaders.proofs.Leaders.{leader-is, leader-le, leader-least, same-leader}
 use Rattle.leaders.proofs.Keys.{numbers-equivalence, agreeOn-one}
 
 -- where rows agree exactly if their numbers are equal, the first row with the same number is the leader

@@ -7,8 +7,9 @@ use lib.Dec.{eqb}
 use lib.ListN.{getD}
 use Rattle.columns.specs.Bound.{columnBound}
 use Rattle.model.specs.Bounds.{rowBound}
+use Rattle.model.specs.First.{firstFrom}
 use Rattle.model.specs.View.{View, In}
-use Rattle.leaders.specs.Leaders.{leaderOf, firstFrom}
+use Rattle.leaders.specs.Leaders.{leaderOf}
 
 -- how many keys there are room for
 abbrev pub keysSize : ℕ

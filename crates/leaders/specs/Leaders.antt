@@ -1,16 +1,10 @@
 -- The leader of a row on a left side: the lowest row that agrees with it there. Over any view; proofs/Leaders.antt
 -- says what leaders tell where agreement is an equivalence.
-use Prim.Native.Nat.{ℕ, zero, suc, _≤_, _<_}
+use Prim.Native.Nat.{ℕ, _≤_, _<_}
 use mathlib.Core.Path.{_≡_}
-use mathlib.Core.Bool.{Bool}
 use lib.Dec.{T}
-use Rattle.columns.specs.Test.{pick}
+use Rattle.model.specs.First.{firstFrom}
 use Rattle.model.specs.View.{View, AgreeOn, agreeOn, agreeRight}
-
--- the first number from i on that passes a test, or the one behind the n that are tried
-unfoldable pub firstFrom : (ℕ → Bool) → ℕ → ℕ → ℕ
-firstFrom test zero i = i
-firstFrom test (suc n) i = pick (test i) i (firstFrom test n (suc i))
 
 -- the leader of row q on the left side x: of the rows before q the first that agrees with it, and else q itself
 unfoldable pub leaderOf : View → ℕ → ℕ → ℕ

@@ -18,13 +18,14 @@ use Rattle.model.specs.Damaged.{tooWide}
 use Rattle.model.specs.Question.{wordsCode}
 use Rattle.model.specs.Catalogue.{visible}
 use Rattle.model.specs.Check.{checkCode, checkMeaning}
-use Rattle.model.specs.View.{Key, Breaks, AgreeOn, holds}
+use Rattle.model.specs.View.{Key, AgreeOn, holds}
+use Rattle.model.specs.Pair.{firstPair}
 use Rattle.model.specs.Target.{view}
 use Rattle.model.specs.Entry.{entry}
 use Rattle.model.specs.Listing.{ordinary, cells}
 use Rattle.model.specs.Calls.{flat, passed, written, placeCode, roomCode, callCode, runAfter, Seen, Obeys}
 use Rattle.model.specs.List.{ListMeaning, listCode}
-use Rattle.model.specs.Album.{album, noRows, oneMissing, bothMissing, equalRows}
+use Rattle.model.specs.Album.{album, noRows, oneMissing, bothMissing, equalRows, twoGroups}
 use Rattle.model.specs.Cases.{Cases}
 use Rattle.model.specs.declared.Entry.{Entry}
 use Rattle.model.proofs.Grounds.{orElse-none}
@@ -36,7 +37,8 @@ use Rattle.model.proofs.Line.{line, fork, depth}
 use Rattle.model.proofs.Replies.{question-replies, list-replies, packed-replies, text-replies}
 use Rattle.model.proofs.Values.{bound-values, byte-order, refusal-numbers, answer-values}
 use Rattle.model.proofs.Text.{album-text}
-use Rattle.model.proofs.View.{holds-true, holds-false, breaks-by}
+use Rattle.model.proofs.View.{holds-true, holds-false, breaks-is}
+use Rattle.model.proofs.Pair.{firstPair-is}
 
 -- the tests on these catalogues
 test1 : holds (view album 1) 1 2 ≡ true
@@ -48,9 +50,9 @@ unfolding computes
 test2 = refl
 
 -- rows 0 and 2
-breaks2 : Breaks (view album 1) 2 2 0 2
+first2 : firstPair (view album 1) 2 2 ≡ 0 ∷ 2 ∷ []
 unfolding computes
-breaks2 = breaks-by (view album 1) 2 2 0 2 tt tt refl refl
+first2 = refl
 
 test3 : holds (view album 1) 6 row ≡ true
 unfolding computes
@@ -186,7 +188,7 @@ unfolding computes
 cases =
     record {
       k1 = holds-true (view album 1) 1 2 test1;
-      k2 = (holds-false (view album 1) 2 2 test2, breaks2);
+      k2 = (holds-false (view album 1) 2 2 test2, firstPair-is (view album 1) 2 2 0 2 .0 first2);
       k3 = holds-true (view album 1) 6 row test3;
       k4 = holds-false (view album 0) 0 0 test4;
       k5 = (holds-true (view album 0) 1 0 test5, unlisted5);
@@ -196,6 +198,10 @@ cases =
       k9 = none9;
       k10 = (order10, lefts10);
       k11 = last11;
+      firstOfGroups = firstPair-is (view twoGroups 0) 1 1 0 3 .0 refl;
+      laterSecond = breaks-is (view twoGroups 0) 1 1 0 4 .0 tt;
+      lowerSecond = breaks-is (view twoGroups 0) 1 1 1 2 .0 tt;
+      lastOfGroups = breaks-is (view twoGroups 0) 1 1 3 4 .0 tt;
       albumLength = album-length;
       albumCheck = album-check;
       refusedCheck = refused-check;
@@ -206,6 +212,7 @@ cases =
       oneMissingAccepted = refl;
       bothMissingAccepted = refl;
       equalRowsAccepted = refl;
+      twoGroupsAccepted = refl;
       line = line;
       fork = fork;
       depth = depth;

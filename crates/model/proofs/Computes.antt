@@ -11,14 +11,16 @@ use Rattle.model.specs.Catalogue.{tables, trailer, tableAt, columns, par
 use Rattle.model.specs.Catalogue.{tableEnd, visible, visibleIn, inherited, sets, setsFrom}
 use Rattle.model.specs.Check.{checkCode, checkMeaning, sizeCode, trailerCode, startOf, headCode, boundCode}
 use Rattle.model.specs.Check.{parentCode, widthCode, extentCode, rowCode, tableCode, leftCode}
-use Rattle.model.specs.View.{holds, minimal, allBelow, agreeOn}
+use Rattle.model.specs.View.{holds, breaks, minimal, allBelow, agreeOn}
+use Rattle.model.specs.First.{firstFrom}
+use Rattle.model.specs.Pair.{firstRow, secondRow, firstPair}
 use Rattle.model.specs.Target.{owner, ownerIn, ancestor, ancestorIn, cellsAgree, agreeAt}
 use Rattle.model.specs.Listing.{rightsOf, cells, cellsFrom, cellsOf, entriesOf}
 use Rattle.model.specs.Listed.{listed}
 use Rattle.model.specs.Rights.{rightAt, rightsFrom, rightsIn}
 use Rattle.model.specs.Encode.{headOf, codesOf, rowOf, trailerOf}
 use Rattle.model.specs.Encode.{rowsBytes, tableBytes, tablesBytes, startsFrom, encode}
-use Rattle.model.specs.Album.{album, noRows, oneMissing, bothMissing, equalRows}
+use Rattle.model.specs.Album.{album, noRows, oneMissing, bothMissing, equalRows, twoGroups}
 use Rattle.model.specs.Damaged.{groundsFrom, notZero, grounds, cut, noTable, children, offsetsFrom, manyTables}
 use Rattle.model.specs.Damaged.{longTrailer, lateTable, shortHead, shortRow, leftByte, manyColumns, rowsOnly}
 use Rattle.model.specs.Damaged.{manyRows, rootedRoot, ownParent, tooWide, rootedRow, unknownParentRow, smallest}
@@ -27,7 +29,7 @@ use Rattle.model.specs.Damaged.{wideAndLong, longAndRooted, rowThenTable
 use Rattle.model.specs.Line.{inLine, forked, below, offsetsBy12, deepest}
 use Rattle.columns.specs.Set.{memberOf}
 use Rattle.model.specs.Question.{targetCode, leftSideCode, rightSideCode, sidesCode, wordsCode, questionCode}
-use Rattle.model.specs.Question.{askMeaning}
+use Rattle.model.specs.Question.{askMeaning, pairMeaning}
 use Rattle.model.specs.Calls.{passed, written, placeCode, roomCode, callCode, runAfter, workAfter}
 use Rattle.model.specs.List.{firstCode}
 use Rattle.model.specs.Entry.{earlier}
@@ -44,14 +46,14 @@ unfoldable pub computes : Unit {0}
 unfolding ones onesIn ifEq ifLt ifLe withoutOf inOrder bySizeFrom ofSize ofSizeFrom u16At u32At bytes2 bytes4 orElse
     firstOf replyOf wordsAfter tables trailer tableAt columns parent rows rowAt parentRow cell tableEnd visible
     visibleIn inherited sets setsFrom checkCode checkMeaning sizeCode trailerCode startOf headCode boundCode parentCode
-    widthCode extentCode rowCode tableCode leftCode holds minimal allBelow agreeOn owner ownerIn ancestor ancestorIn
-    cellsAgree agreeAt listed rightAt rightsFrom rightsIn rightsOf cells cellsFrom cellsOf entriesOf headOf codesOf
+    widthCode extentCode rowCode tableCode leftCode holds breaks minimal allBelow agreeOn firstFrom firstRow secondRow
+    firstPair owner ownerIn ancestor ancestorIn cellsAgree agreeAt listed rightAt rightsFrom rightsIn rightsOf cells cellsFrom cellsOf entriesOf headOf codesOf
     rowOf trailerOf rowsBytes tableBytes tablesBytes startsFrom encode album noRows oneMissing bothMissing equalRows
-    groundsFrom notZero grounds cut noTable children
+    twoGroups groundsFrom notZero grounds cut noTable children
     offsetsFrom manyTables longTrailer lateTable shortHead shortRow leftByte manyColumns rowsOnly manyRows rootedRoot
     ownParent tooWide rootedRow unknownParentRow smallest mostColumns mostRows widest lateAndLarge largeAndRooted
     ownParentAndWide wideAndLong longAndRooted rowThenTable rowThenByte inLine forked below offsetsBy12 deepest memberOf
-    targetCode leftSideCode rightSideCode sidesCode wordsCode questionCode askMeaning passed written placeCode roomCode
+    targetCode leftSideCode rightSideCode sidesCode wordsCode questionCode askMeaning pairMeaning passed written placeCode roomCode
     callCode runAfter workAfter firstCode earlier tailCode bytesOf entryAt countIn distanceIn entriesBytes packed
     entriesFrom entriesHeld frontOf entryCode laterCode restCode entriesCode outputCode packCode packMeaning outputAfter
     readCode openMeaning entriesRead frontRead readFrom readMeaning runRead readAt emptyList lostEntry answerText

@@ -1,6 +1,8 @@
 pub mod Truth
 pub mod Grounds
+pub mod First
 pub mod View
+pub mod Pair
 pub mod Listed
 pub mod Target
 pub mod Check

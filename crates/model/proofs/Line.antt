@@ -6,7 +6,7 @@ use Rattle.model.specs.View.{Breaks, holds}
 use Rattle.model.specs.Target.{view}
 use Rattle.model.specs.Line.{inLine, Line, Fork, Depth}
 use Rattle.model.proofs.Computes.{computes}
-use Rattle.model.proofs.View.{holds-true, holds-false, breaks-by}
+use Rattle.model.proofs.View.{holds-true, holds-false, breaks-is}
 
 -- the tests on the tables in a line, and the pairs of rows that break
 three-up-gives : holds (view inLine 3) 1 3 ≡ true
@@ -19,7 +19,7 @@ three-up-not = refl
 
 three-up-breaks : Breaks (view inLine 3) 1 4 1 2
 unfolding computes
-three-up-breaks = breaks-by (view inLine 3) 1 4 1 2 tt tt refl refl
+three-up-breaks = breaks-is (view inLine 3) 1 4 1 2 .0 tt
 
 two-up-not : holds (view inLine 3) 2 3 ≡ false
 unfolding computes
@@ -27,7 +27,7 @@ two-up-not = refl
 
 two-up-breaks : Breaks (view inLine 3) 2 3 0 1
 unfolding computes
-two-up-breaks = breaks-by (view inLine 3) 2 3 0 1 tt tt refl refl
+two-up-breaks = breaks-is (view inLine 3) 2 3 0 1 .0 tt
 
 two-up-gives : holds (view inLine 3) 6 3 ≡ true
 unfolding computes
@@ -43,7 +43,7 @@ key-not = refl
 
 key-breaks : Breaks (view inLine 3) 18 row 0 1
 unfolding computes
-key-breaks = breaks-by (view inLine 3) 18 row 0 1 tt tt refl refl
+key-breaks = breaks-is (view inLine 3) 18 row 0 1 .0 tt
 
 pub line : Line
 unfolding computes

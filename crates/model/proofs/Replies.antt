@@ -3,15 +3,13 @@ use Prim.Native.Nat.{ℕ, _≤_, _<_}
 use mathlib.Core.Path.{_≡_, refl, sym, ap, subst, _∙_}
 use mathlib.Core.List.{List, [], _∷_}
 use native.Mathlib.Omega.{arith}
-use lib.ListN.{length, drop, getD}
+use lib.ListN.{length, drop}
 use Rattle.columns.proofs.Test.{ifEq-no, ifLt-no, ifLt-yes}
 use Rattle.model.specs.Bounds.{workBound}
 use Rattle.model.specs.Refusal.{number, orElse}
 use Rattle.model.specs.declared.Refusal.the-variants.{TooFewWords}
-use Rattle.model.specs.Reply.{Reply, refused, answered}
-use Rattle.model.specs.Question.{wordsCode, PairMeaning}
+use Rattle.model.specs.Question.{wordsCode}
 use Rattle.model.specs.Check.{Accepted, checkCode}
-use Rattle.model.specs.Target.{view}
 use Rattle.model.specs.Listing.{ordinary, cells}
 use Rattle.model.specs.Calls.{placeCode, roomCode, callCode, Seen, Obeys}
 use Rattle.model.specs.List.{ListMeaning}
@@ -20,26 +18,9 @@ use Rattle.model.specs.Album.{album}
 use Rattle.model.specs.Line.{inLine}
 use Rattle.model.specs.Replies.{QuestionReplies, ListReplies, PackedReplies, TextReplies}
 use Rattle.model.specs.declared.Entry.{Entry}
-use Rattle.model.proofs.Truth.{true-is}
 use Rattle.model.proofs.Grounds.{orElse-next}
 use Rattle.model.proofs.Complete.{after-none}
 use Rattle.model.proofs.Computes.{computes}
-use Rattle.model.proofs.View.{breaks-by}
-
--- the values of an answer
-abbrev values : Reply → List ℕ
-values (refused n) = []
-values (answered vs) = vs
-
--- K2's pair, and what it is not
-pair2 : PairMeaning album 1 2 2 16384 (answered (0 ∷ 2 ∷ []))
-unfolding computes
-pair2 =
-    record {
-      isRefused = λ ground. absurd (ground refl);
-      none = λ z h. absurd (true-is h);
-      breaking = λ z h. (0, 2, refl, breaks-by (view album 1) 2 2 0 2 tt tt refl refl);
-    }
 
 pub question-replies : QuestionReplies
 unfolding computes
@@ -54,19 +35,15 @@ question-replies =
       refused10 = refl;
       refused11 = refl;
       refused6 = refl;
-      pairOfK1 = λ r m. m .none refl refl;
-      pairOfK2 = pair2;
-      notNone = λ m.
-          let e : _≡_ {A = ℕ} 0 2 = ap (λ (r : Reply). length (values r)) (m .breaking refl refl .2) in
-          omega arith;
-      notHigherFirst = λ m.
-          let rows = m .breaking refl refl in
-          let first : 2 ≡ rows .0 = ap (λ (r : Reply). getD (values r) 0 0) (rows .2) in
-          let second : 0 ≡ rows .1 = ap (λ (r : Reply). getD (values r) 1 0) (rows .2) in
-          omega (arith, rows .3 .lower);
-      pairRefused8 = λ r m. m .isRefused (λ (e : _≡_ {A = ℕ} 8 0). omega arith);
-      pairRefused11 = λ r m. m .isRefused (λ (e : _≡_ {A = ℕ} 11 0). omega arith);
-      pairRefused6 = λ r m. m .isRefused (λ (e : _≡_ {A = ℕ} 6 0). omega arith);
+      pairOfK1 = refl;
+      pairOfK2 = refl;
+      pairOfGroups = refl;
+      pairOfRow = refl;
+      pairRefused8 = refl;
+      pairRefused9 = refl;
+      pairRefused10 = refl;
+      pairRefused11 = refl;
+      pairRefused6 = refl;
       zeroed = refl;
       kept = λ n ground. ifEq-no (0 ∷ 0 ∷ []) ground;
     }

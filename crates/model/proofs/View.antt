@@ -6,13 +6,13 @@ use mathlib.Core.Logic.{_⊎_, inl, inr, _↔_}
 use mathlib.Core.Bool.{Bool, true, false, not, _&&_, _||_}
 use native.Mathlib.Decide.{ℕ-discrete, decLt}
 use native.Mathlib.Omega.{arith}
-use lib.Dec.{T, eqb, ltb, lit<}
+use lib.Dec.{T, eqb, ltb, ltb→lt, lt→ltb}
 use Rattle.columns.specs.Set.{bit, withoutOf}
 use Rattle.columns.specs.Test.{pick}
 use Rattle.columns.proofs.Bits.{bit-without-same, bit-without-other}
 use Rattle.model.specs.Bounds.{row}
 use Rattle.model.specs.View.{View, Equivalence, In, isIn, Within, AgreeOn, agreeOn, agreeRight, Holds, holds}
-use Rattle.model.specs.View.{Breaks, Minimal, Least, minimal, allBelow}
+use Rattle.model.specs.View.{Breaks, breaks, Minimal, Least, minimal, allBelow}
 use Rattle.model.proofs.Truth.{is-true, true-is, is-false, false-is, decided, and-is, or-is, not-is, implies-is}
 use Rattle.model.proofs.Truth.{eqb-is, allBelow-is, one-fails}
 
@@ -46,6 +46,34 @@ holds-is v x a = (
   where
     test : ℕ → ℕ → Bool
     test p q = not (agreeOn v x p q) || agreeRight v a p q
+
+pub breaks-is : (v : View) (x a p q : ℕ) → T (breaks v x a p q) ↔ Breaks v x a p q
+unfolding breaks
+breaks-is v x a p q = (
+  λ t.
+      let l = and-is (ltb p q) (ltb q (v .rows) && sides) .0 t in
+      let e = and-is (ltb q (v .rows)) sides .0 (l .1) in
+      let h = and-is (agreeOn v x p q) (not (agreeRight v a p q)) .0 (e .1) in
+      record {
+        lower = ltb→lt p q (l .0);
+        exists = ltb→lt q (v .rows) (e .0);
+        left = agreeOn-is v x p q .0 (h .0);
+        right = not-is (agreeRight v a p q) .0 (h .1);
+      },
+  λ b. and-is (ltb p q) (ltb q (v .rows) && sides) .1 (
+    lt→ltb p q (b .lower),
+    and-is (ltb q (v .rows)) sides .1 (
+      lt→ltb q (v .rows) (b .exists),
+      and-is (agreeOn v x p q) (not (agreeRight v a p q)) .1 (
+        agreeOn-is v x p q .1 (b .left),
+        not-is (agreeRight v a p q) .1 (b .right),
+      ),
+    ),
+  ),
+)
+  where
+    sides : Bool
+    sides = agreeOn v x p q && not (agreeRight v a p q)
 
 pub minimal-is : (v : View) (x a : ℕ) → T (minimal v x a) ↔ Minimal v x a
 unfolding minimal
@@ -110,17 +138,6 @@ agreeOn-true v x p q e = agreeOn-is v x p q .0 (true-is e)
 
 pub agreeOn-false : (v : View) (x p q : ℕ) → agreeOn v x p q ≡ false → AgreeOn v x p q → ⊥
 agreeOn-false v x p q e h = false-is e (agreeOn-is v x p q .1 h)
-
--- two rows break a dependency, by the tests
-pub breaks-by : (v : View) (x a p q : ℕ) → T (ltb p q) → T (ltb q (v .rows)) → agreeOn v x p q ≡ true
-    → agreeRight v a p q ≡ false → Breaks v x a p q
-breaks-by v x a p q lower exists left right =
-    record {
-      lower = lit< lower;
-      exists = lit< exists;
-      left = agreeOn-true v x p q left;
-      right = false-is right;
-    }
 
 -- a failed test has two rows, in some order, that agree on the left and disagree on the right
 pub record Apart (v : View) (x a p q : ℕ) : Type 0 where

@@ -1,4 +1,5 @@
--- The album catalogue of document 01, and the small catalogues of its cases K6 to K9, as bytes.
+-- The album catalogue of document 01, the small catalogues of its cases K6 to K9, and one for the first breaking pair,
+-- as bytes.
 use Prim.Native.Nat.{ℕ}
 use mathlib.Core.List.{List, [], _∷_, _++_}
 use Rattle.model.specs.Bounds.{noParent, missing}
@@ -40,4 +41,13 @@ equalRows =
     encode
     (content 1 noParent ((noParent, 5 ∷ []) ∷ [])
     ∷ content 1 0 ((0, 7 ∷ []) ∷ (0, 7 ∷ []) ∷ [])
+    ∷ [])
+
+-- two columns and five rows: {0} does not give 1 among the rows 0, 3 and 4, nor among the rows 1 and 2
+unfoldable pub twoGroups : List ℕ
+twoGroups =
+    encode
+    (content 2 noParent
+    ((noParent, 1 ∷ 1 ∷ []) ∷ (noParent, 2 ∷ 1 ∷ []) ∷ (noParent, 2 ∷ 2 ∷ []) ∷ (noParent, 1 ∷ 2 ∷ [])
+    ∷ (noParent, 1 ∷ 3 ∷ []) ∷ [])
     ∷ [])

@@ -1,5 +1,5 @@
--- The proved cases, as one table: K1 to K11 of document 01, what it says of the album, and the tables of the other
--- files by subject. Left sides are numbers: {0} is 1, {1} is 2, {1, 2} is 6.
+-- The proved cases, as one table: K1 to K11 of document 01, what it says of the album, the first breaking pair of
+-- document 02, a, and the tables of the other files by subject. Left sides are numbers: {0} is 1, {1} is 2, {1, 2} is 6.
 use Prim.Native.Nat.{ℕ, _≤_}
 use mathlib.Core.Path.{_≡_}
 use mathlib.Core.List.{[], _∷_, List·Memᴰ}
@@ -10,13 +10,14 @@ use Rattle.model.specs.Reply.{refused, answered}
 use Rattle.model.specs.Catalogue.{visible}
 use Rattle.model.specs.Check.{Accepted, checkMeaning}
 use Rattle.model.specs.View.{Holds, Key, Breaks}
+use Rattle.model.specs.Pair.{FirstPair}
 use Rattle.model.specs.Target.{view}
 use Rattle.model.specs.Entry.{entry}
 use Rattle.model.specs.Listing.{cells, ordinary}
 use Rattle.model.specs.Calls.{flat, Seen}
 use Rattle.model.specs.List.{ListMeaning}
 use Rattle.model.specs.Text.{answerText}
-use Rattle.model.specs.Album.{album, albumLines, noRows, oneMissing, bothMissing, equalRows}
+use Rattle.model.specs.Album.{album, albumLines, noRows, oneMissing, bothMissing, equalRows, twoGroups}
 use Rattle.model.specs.Damaged.{tooWide, Damages, AtTheBounds, DamageOrder}
 use Rattle.model.specs.RefusedCalls.{RefusedQuestions, RefusedListings, RefusedLists}
 use Rattle.model.specs.Line.{Line, Fork, Depth}
@@ -27,8 +28,8 @@ use Rattle.model.specs.declared.Entry.{Entry}
 pub record Cases : Type 0 where
   -- K1 table 1, {0} gives 2
   pub k1 : Holds (view album 1) 1 2
-  -- K2 {1} doesn't give 2, rows 0 and 2 break it
-  pub k2 : (Holds (view album 1) 2 2 → ⊥) × Breaks (view album 1) 2 2 0 2
+  -- K2 {1} doesn't give 2, rows 0 and 2 break it: they are the first pair
+  pub k2 : (Holds (view album 1) 2 2 → ⊥) × FirstPair (view album 1) 2 2 0 2
   -- K3 {1, 2} gives the row
   pub k3 : Key (view album 1) 6
   -- K4 table 0, the empty set doesn't give 0
@@ -48,6 +49,11 @@ pub record Cases : Type 0 where
   -- K11 place 10 returns 10 and no entry: whatever the budget and the run, with words enough
   pub k11 : (s : Seen Entry) → s .place ≡ 10 → workBound ≤ length (s .work) → ListMeaning album s
       → (s .reply ≡ answered (10 ∷ 0 ∷ 0 ∷ [])) × (s .runThen ≡ s .run)
+  -- of four breaking pairs the first: the lowest first row, then the lowest second row
+  pub firstOfGroups : FirstPair (view twoGroups 0) 1 1 0 3
+  pub laterSecond : Breaks (view twoGroups 0) 1 1 0 4
+  pub lowerSecond : Breaks (view twoGroups 0) 1 1 1 2
+  pub lastOfGroups : Breaks (view twoGroups 0) 1 1 3 4
   -- the album's file, what its check answers, and its full listing
   pub albumLength : length album ≡ 84
   pub albumCheck : checkMeaning album ≡ answered (2 ∷ 10 ∷ [])
@@ -61,6 +67,7 @@ pub record Cases : Type 0 where
   pub oneMissingAccepted : Accepted oneMissing
   pub bothMissingAccepted : Accepted bothMissing
   pub equalRowsAccepted : Accepted equalRows
+  pub twoGroupsAccepted : Accepted twoGroups
   -- specs/Line.antt: four tables in a line, two tables under one parent, sixteen tables in a line
   pub line : Line
   pub fork : Fork

@@ -4,7 +4,9 @@ pub mod Reply
 pub mod Bytes
 pub mod Catalogue
 pub mod Check
+pub mod First
 pub mod View
+pub mod Pair
 pub mod Listed
 pub mod Rights
 pub mod Target

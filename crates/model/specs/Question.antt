@@ -1,16 +1,15 @@
--- The question and the breaking pair: their refusals 8 to 11 after those of the check, and what they reply.
+-- The question and the first breaking pair: their refusals 8 to 11 after those of the check, and what they reply.
 use Prim.Native.Nat.{ℕ, _^_}
-use mathlib.Core.Path.{_≡_}
 use mathlib.Core.List.{List, [], _∷_}
-use mathlib.Core.Bool.{Bool, true, false}
 use Rattle.columns.specs.Test.{ifEq, ifLt, pick}
 use Rattle.model.specs.Bounds.{workBound, row}
 use Rattle.model.specs.Refusal.{number, orElse}
-use Rattle.model.specs.Reply.{Reply, refused, answered, replyOf}
+use Rattle.model.specs.Reply.{Reply, replyOf}
 use Rattle.model.specs.declared.Refusal.the-variants.{UnknownTable, UnknownColumn, UnknownRight, TooFewWords}
 use Rattle.model.specs.Catalogue.{tables, visible, inherited}
 use Rattle.model.specs.Check.{checkCode}
-use Rattle.model.specs.View.{View, Breaks, holds}
+use Rattle.model.specs.View.{holds}
+use Rattle.model.specs.Pair.{firstPair}
 use Rattle.model.specs.Target.{view}
 
 -- 8: the target is not below the number of tables
@@ -46,12 +45,7 @@ unfoldable pub askMeaning : List ℕ → ℕ → ℕ → ℕ → ℕ → Reply
 askMeaning cat target left right words =
     replyOf (questionCode cat target left right words) (pick (holds (view cat target) left right) 1 0 ∷ [])
 
--- what the breaking pair may reply: 'none' where the dependency holds, and otherwise any two rows that break it, the
--- lower first
-pub record PairMeaning (cat : List ℕ) (target left right words : ℕ) (r : Reply) : Type 0 where
-  pub isRefused : (questionCode cat target left right words ≡ 0 → ⊥)
-      → r ≡ refused (questionCode cat target left right words)
-  pub none : questionCode cat target left right words ≡ 0 → holds (view cat target) left right ≡ true
-      → r ≡ answered []
-  pub breaking : questionCode cat target left right words ≡ 0 → holds (view cat target) left right ≡ false
-      → (p : ℕ) × (q : ℕ) × (r ≡ answered (p ∷ q ∷ [])) × Breaks (view cat target) left right p q
+-- the rows of the first breaking pair, or no value for 'none'
+unfoldable pub pairMeaning : List ℕ → ℕ → ℕ → ℕ → ℕ → Reply
+pairMeaning cat target left right words =
+    replyOf (questionCode cat target left right words) (firstPair (view cat target) left right)

@@ -7,14 +7,14 @@ use lib.ListN.{length, replicate, drop}
 use Rattle.model.specs.Bounds.{workBound, row}
 use Rattle.model.specs.Reply.{Reply, refused, answered, wordsAfter}
 use Rattle.model.specs.Check.{checkCode}
-use Rattle.model.specs.Question.{askMeaning, PairMeaning}
+use Rattle.model.specs.Question.{askMeaning, pairMeaning}
 use Rattle.model.specs.Entry.{entry}
-use Rattle.model.specs.Calls.{Seen, workAfter, seen}
+use Rattle.model.specs.Calls.{workAfter, seen}
 use Rattle.model.specs.List.{ListMeaning}
 use Rattle.model.specs.Packing.{packed, packMeaning, outputAfter}
-use Rattle.model.specs.Reading.{openMeaning, entriesRead, frontRead, readFrom, readMeaning, runRead, readAt}
+use Rattle.model.specs.Reading.{openMeaning, entriesRead, frontRead, readMeaning, runRead, readAt}
 use Rattle.model.specs.Text.{decimal, entryLine, refusedLine, answerText}
-use Rattle.model.specs.Album.{album, noRows}
+use Rattle.model.specs.Album.{album, noRows, twoGroups}
 use Rattle.model.specs.Damaged.{cut, tooWide}
 use Rattle.model.specs.Line.{inLine}
 use Rattle.model.specs.RefusedCalls.{lostEntry}
@@ -32,15 +32,17 @@ pub record QuestionReplies : Type 0 where
   pub refused10 : askMeaning album 1 0 0 16384 ≡ refused 10
   pub refused11 : askMeaning album 1 1 2 16383 ≡ refused 11
   pub refused6 : askMeaning tooWide 0 0 row 0 ≡ refused 6
-  -- the pair replies 'none' where it holds, and nothing else; rows 0 and 2 where it breaks, not 'none' and not the
-  -- higher row first
-  pub pairOfK1 : (r : Reply) → PairMeaning album 1 1 2 16384 r → r ≡ answered []
-  pub pairOfK2 : PairMeaning album 1 2 2 16384 (answered (0 ∷ 2 ∷ []))
-  pub notNone : PairMeaning album 1 2 2 16384 (answered []) → ⊥
-  pub notHigherFirst : PairMeaning album 1 2 2 16384 (answered (2 ∷ 0 ∷ [])) → ⊥
-  pub pairRefused8 : (r : Reply) → PairMeaning album 2 1 2 16384 r → r ≡ refused 8
-  pub pairRefused11 : (r : Reply) → PairMeaning album 1 1 2 16383 r → r ≡ refused 11
-  pub pairRefused6 : (r : Reply) → PairMeaning tooWide 0 0 row 0 r → r ≡ refused 6
+  -- the pair replies 'none' where it holds, and where it breaks the first two rows: of 0 and 3, 0 and 4, 1 and 2, 3 and
+  -- 4 those with the lowest first row, and of these those with the lowest second
+  pub pairOfK1 : pairMeaning album 1 1 2 16384 ≡ answered []
+  pub pairOfK2 : pairMeaning album 1 2 2 16384 ≡ answered (0 ∷ 2 ∷ [])
+  pub pairOfGroups : pairMeaning twoGroups 0 1 1 16384 ≡ answered (0 ∷ 3 ∷ [])
+  pub pairOfRow : pairMeaning twoGroups 0 2 row 16384 ≡ answered (0 ∷ 1 ∷ [])
+  pub pairRefused8 : pairMeaning album 2 1 2 16384 ≡ refused 8
+  pub pairRefused9 : pairMeaning album 1 8 row 16384 ≡ refused 9
+  pub pairRefused10 : pairMeaning album 1 0 0 16384 ≡ refused 10
+  pub pairRefused11 : pairMeaning album 1 1 2 16383 ≡ refused 11
+  pub pairRefused6 : pairMeaning tooWide 0 0 row 0 ≡ refused 6
   -- after an answer every work word is 0; after any refusal they are as they were
   pub zeroed : wordsAfter 0 (3 ∷ 1 ∷ []) ≡ 0 ∷ 0 ∷ []
   pub kept : (n : ℕ) → (n ≡ 0 → ⊥) → wordsAfter n (3 ∷ 1 ∷ []) ≡ 3 ∷ 1 ∷ []

@@ -3,8 +3,8 @@
 -- document, and beside them tests that compute; proofs/View.antt shows that the two say the same.
 use Prim.Native.Nat.{ℕ, zero, suc, _<_}
 use mathlib.Core.Path.{_≡_}
-use mathlib.Core.Bool.{Bool, true, false, not, _&&_, _||_}
-use lib.Dec.{T, eqb}
+use mathlib.Core.Bool.{Bool, true, not, _&&_, _||_}
+use lib.Dec.{T, eqb, ltb}
 use Rattle.columns.specs.Set.{bit, withoutOf}
 use Rattle.columns.specs.Test.{pick}
 use Rattle.model.specs.Bounds.{row}
@@ -80,6 +80,10 @@ agreeOn v x p q = allBelow (v .members) (λ k. not (isIn k x) || v .agree k p q)
 
 unfoldable pub holds : View → ℕ → ℕ → Bool
 holds v x a = allBelow (v .rows) (λ p. allBelow (v .rows) (λ q. not (agreeOn v x p q) || agreeRight v a p q))
+
+-- do two rows break a dependency, the lower first?
+unfoldable pub breaks : View → ℕ → ℕ → ℕ → ℕ → Bool
+breaks v x a p q = ltb p q && (ltb q (v .rows) && (agreeOn v x p q && not (agreeRight v a p q)))
 
 unfoldable pub minimal : View → ℕ → ℕ → Bool
 minimal v x a =

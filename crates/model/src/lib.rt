@@ -71,7 +71,7 @@ pub enum AskAnswer {
     Refused(Refusal),
 }
 
-// Two rows that break the dependency, the lower first, or 'none'.
+// The first two rows that break the dependency, the lower first, or 'none'.
 pub enum PairAnswer {
     Rows { first: u32, second: u32 },
     Nothing,

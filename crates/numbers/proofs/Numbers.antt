@@ -17,7 +17,7 @@ use Rattle.columns.proofs.Test.{ifEq-yes, ifEq-no}
 use Rattle.model.specs.Reply.{Reply, answered, refused, replyOf}
 use Rattle.model.specs.declared.Refusal.{Refusal}
 use Rattle.refusals.proofs.Numbers.{number-range}
-use Rattle.numbers.specs.Number.{numberOf, valueOr}
+use Rattle.numbers.specs.Number.{numberOf, valueOr, foundOf}
 
 -- the value of a reply that has one fits 63 bits if it does where there is no refusal
 pub reply-fits : (code n : ℕ) → (code ≡ 0 → n < 2 ^ 63) → valueOr 0 0 (replyOf code (n ∷ [])) < 2 ^ 63
@@ -76,6 +76,11 @@ module _ (r : Refusal) where
   pub refused-seen : (seen : ℤ → Reply) → ((n : ℕ) → seen (negsuc n) ≡ refused (suc n))
       → seen (negℤ (pos (number r))) ≡ refused (number r)
   refused-seen seen f = number-is (λ k. seen (negℤ (pos k)) ≡ refused k) (λ n _. f n)
+
+-- equal replies go back as equal numbers, and leave the same behind two pointers
+pub same-found : {r s : Reply} → r ≡ s → (first second : ℕ)
+    → (foundOf r ≡ foundOf s) × (valueOr 0 first r ≡ valueOr 0 first s) × (valueOr 1 second r ≡ valueOr 1 second s)
+same-found e first second = (ap foundOf e, ap (valueOr 0 first) e, ap (valueOr 1 second) e)
 
 -- an answer of any enum, once its variant is known, as the number that it goes back as: its value if that fits 63
 -- bits, or the refusal

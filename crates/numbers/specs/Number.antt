@@ -1,6 +1,6 @@
 -- What a call hands back to C: one number, a refusal's number made negative or a value of the answer, and the numbers
 -- behind lent pointers.
-use Prim.Native.Nat.{ℕ, zero, suc}
+use Prim.Native.Nat.{ℕ, suc}
 use mathlib.Core.List.{[], _∷_}
 use lib.IntN.{ℤ, pos, negsuc, negℤ}
 use lib.ListN.{getD}
@@ -11,23 +11,22 @@ abbrev pub numberOf : ℕ → Reply → ℤ
 numberOf i (refused n) = negℤ (pos n)
 numberOf i (answered vs) = pos (getD vs i 0)
 
--- what stands behind a lent number afterwards: the answer's value at an index, or what stood there after a refusal
+-- what stands behind a lent number afterwards: the answer's value at an index, or what stood there after a refusal and
+-- where the answer has no such value
 abbrev pub valueOr : ℕ → ℕ → Reply → ℕ
 valueOr i old (refused n) = old
-valueOr i old (answered vs) = getD vs i 0
+valueOr i old (answered vs) = getD vs i old
 
 -- 0 for an answer, or the refusal
 abbrev pub statusOf : Reply → ℤ
 statusOf (refused n) = negℤ (pos n)
 statusOf (answered vs) = pos 0
 
--- the reply that a number and the two rows behind lent pointers show: 1 with both rows, 0 for 'none', or a refusal.
--- No other number is one: `refused 0` is no reply of any call
-abbrev pub pairSeen : ℤ → ℕ → ℕ → Reply
-pairSeen (negsuc n) first second = refused (suc n)
-pairSeen (pos zero) first second = answered []
-pairSeen (pos (suc zero)) first second = answered (first ∷ second ∷ [])
-pairSeen (pos (suc (suc n))) first second = refused 0
+-- 1 for an answer that has a value, 0 for one that has none, or the refusal
+abbrev pub foundOf : Reply → ℤ
+foundOf (refused n) = negℤ (pos n)
+foundOf (answered []) = pos 0
+foundOf (answered (v ∷ vs)) = pos 1
 
 -- the reply that an entry count and the two numbers behind lent pointers show: the place reached, the sets passed and
 -- the count, or a refusal

@@ -1,23 +1,22 @@
--- The first row that strays, with its leader, is the first pair of rows that breaks the dependency; and what is first
--- for keys is first for every view that they are right for.
+-- The first row that strays, with its leader, is the first pair of rows that breaks the dependency.
 use Prim.Native.Nat.{ℕ, _≤_, _<_}
-use mathlib.Core.Path.{_≡_, sym, ap, subst, _∙_}
+use mathlib.Core.Path.{_≡_, sym, subst, _∙_}
 use mathlib.Core.Logic.{_⊎_, inl, inr}
 use mathlib.Core.List.{List}
-use mathlib.Core.Bool.{Bool, true, false, not}
+use mathlib.Core.Bool.{true}
 use native.Mathlib.Omega.{arith}
 use lib.Dec.{T}
 use lib.ListN.{getD}
 use Rattle.model.specs.Bounds.{rowBound}
-use Rattle.model.specs.View.{View, Within, Breaks, agreeOn, agreeRight}
+use Rattle.model.specs.Pair.{firstPair}
 use Rattle.model.proofs.Truth.{true-is, is-true, not-is}
-use Rattle.model.proofs.View.{agreeOn-is}
+use Rattle.model.proofs.Pair.{firstPair-is, none-is}
 use Rattle.leaders.specs.Leaders.{leaderOf, Strays}
-use Rattle.leaders.specs.Keys.{keyView, Keyed}
+use Rattle.leaders.specs.Keys.{keyView}
 use Rattle.leaders.proofs.Leaders.{leader-le, no-stray-holds, first-pair}
-use Rattle.leaders.proofs.Keys.{key-equivalence, KeyedRight, keyed-agreeOn, keyed-right}
+use Rattle.leaders.proofs.Keys.{key-equivalence}
 use Rattle.partition.specs.Partition.{Led}
-use Rattle.search.specs.Strays.{sameRight, strays, Inside, NoneBefore, FirstStray, FirstBreaking}
+use Rattle.search.specs.Strays.{sameRight, strays, Inside, FirstStray, rowsFound}
 use Rattle.search.specs.declared.Found.{Found}
 use Rattle.search.specs.declared.Found.the-variants.{Pair, Nothing}
 
@@ -38,11 +37,12 @@ module _ (keys leaders : List ℕ) (n end x a : ℕ)
       is-true (not-is (sameRight keys a (getD leaders q 0) q) .1
       (subst (λ (p : ℕ). T (sameRight keys a p q) → ⊥) (sym (leads q (s .exists))) (s .apart)))
 
-  pub stray-breaking : (f : Found) → FirstStray keys leaders a end f → FirstBreaking (keyView keys n end) x a f
-  stray-breaking (Pair p q) (l, e, s, none) =
-      first-pair (keyView keys n end) (key-equivalence keys n end) x a p q (strays-is q l s) (sym e ∙ leads q l)
+  pub stray-first : (f : Found) → FirstStray keys leaders a end f → rowsFound f ≡ firstPair (keyView keys n end) x a
+  stray-first (Pair p q) (l, e, s, none) =
+      sym (firstPair-is (keyView keys n end) x a p q .1
+      (first-pair (keyView keys n end) (key-equivalence keys n end) x a p q (strays-is q l s) (sym e ∙ leads q l)
       (λ r low h. lower r low (leads r (h .exists)) (none r (h .exists) (is-strays r h)))
-      (λ r low same h. earlier r low same (leads r (h .exists)) (none r (h .exists) (is-strays r h)))
+      (λ r low same h. earlier r low same (leads r (h .exists)) (none r (h .exists) (is-strays r h)))))
     where
       lower : (r : ℕ) → leaderOf (keyView keys n end) x r < p → getD leaders r 0 ≡ leaderOf (keyView keys n end) x r
           → (p < getD leaders r 0) ⊎ ((p ≡ getD leaders r 0) × (q ≤ r)) → ⊥
@@ -54,45 +54,13 @@ module _ (keys leaders : List ℕ) (n end x a : ℕ)
           → (p < getD leaders r 0) ⊎ ((p ≡ getD leaders r 0) × (q ≤ r)) → ⊥
       earlier r low same g (inl h) = omega arith
       earlier r low same g (inr (h, k)) = omega arith
-  stray-breaking Nothing none =
-      no-stray-holds (keyView keys n end) (key-equivalence keys n end) x a (λ q s. none q (s .exists) (is-strays q s))
+  stray-first Nothing none =
+      sym (none-is (keyView keys n end) x a .1
+      (no-stray-holds (keyView keys n end) (key-equivalence keys n end) x a
+      (λ q s. none q (s .exists) (is-strays q s))))
 
 -- the leaders are no higher than their rows
 pub led-inside : {keys leaders : List ℕ} {n end x r : ℕ} → end ≤ rowBound → Led keys n end x leaders r
     → Inside end leaders
 led-inside {keys} {leaders} {n} {end} {x} short led =
     record { short = short; lower = λ q l. omega (arith, led .leads q l, leader-le (keyView keys n end) x q) }
-
-module _ {v : View} {set n end : ℕ} {keys : List ℕ} (keyed : Keyed v set n end keys) (x a : ℕ)
-    (within : Within (keyView keys n end) x set) (right : KeyedRight n set a) where
-  keyed-breaks : (p q : ℕ) → Breaks (keyView keys n end) x a p q → Breaks v x a p q
-  keyed-breaks p q b =
-      let l = b .lower in
-      let h = b .exists in
-      let e = keyed .rows in
-      record {
-        lower = l;
-        exists = omega arith;
-        left = agreeOn-is v x p q .0
-            (subst T (sym (keyed-agreeOn keyed x p q within (omega arith) h))
-            (agreeOn-is (keyView keys n end) x p q .1 (b .left)));
-        right = λ t. b .right (subst T (keyed-right keyed a p q right (omega arith) h) t);
-      }
-
-  breaks-keyed : (p q : ℕ) → Breaks v x a p q → Breaks (keyView keys n end) x a p q
-  breaks-keyed p q b =
-      let l = b .lower in
-      let h = b .exists in
-      let e = keyed .rows in
-      let k : q < end = omega arith in
-      record {
-        lower = l;
-        exists = k;
-        left = agreeOn-is (keyView keys n end) x p q .0
-            (subst T (keyed-agreeOn keyed x p q within (omega arith) k) (agreeOn-is v x p q .1 (b .left)));
-        right = λ t. b .right (subst T (sym (keyed-right keyed a p q right (omega arith) k)) t);
-      }
-
-  pub keyed-breaking : (f : Found) → FirstBreaking (keyView keys n end) x a f → FirstBreaking v x a f
-  keyed-breaking (Pair p q) (b, clear) = (keyed-breaks p q b, λ m k before h. clear m k before (breaks-keyed m k h))
-  keyed-breaking Nothing none = λ p q h. none p q (breaks-keyed p q h)

@@ -3,13 +3,12 @@
 use Prim.Native.Nat.{ℕ, _+_, _≤_, _<_}
 use mathlib.Core.Path.{_≡_}
 use mathlib.Core.Logic.{_⊎_}
-use mathlib.Core.List.{List}
+use mathlib.Core.List.{List, [], _∷_}
 use mathlib.Core.Bool.{Bool, true, not, _&&_}
 use lib.Dec.{eqb}
 use lib.ListN.{getD, length}
 use Rattle.columns.specs.Test.{pick, ifEq}
 use Rattle.model.specs.Bounds.{row, rowBound}
-use Rattle.model.specs.View.{View, Breaks}
 use Rattle.leaders.specs.Keys.{keyAt}
 use Rattle.search.specs.declared.Found.{Found}
 use Rattle.search.specs.declared.Found.the-variants.{Pair, Nothing}
@@ -57,15 +56,7 @@ FirstStray keys leaders a end (Pair p q) =
     (q < end) × (getD leaders q 0 ≡ p) × (strays keys leaders a q ≡ true) × NoneBefore keys leaders a end p q
 FirstStray keys leaders a end Nothing = (r : ℕ) → r < end → strays keys leaders a r ≡ true → ⊥
 
--- the rows p and q come before the rows m and n
-abbrev pub Before : ℕ → ℕ → ℕ → ℕ → Type 0
-Before p q m n = (p < m) ⊎ ((p ≡ m) × (q < n))
-
--- no two rows before the rows m and n break the dependency
-abbrev pub Clear : View → ℕ → ℕ → ℕ → ℕ → Type 0
-Clear v x a m n = (p q : ℕ) → Before p q m n → Breaks v x a p q → ⊥
-
--- the first two rows that break the dependency, or that none do
-abbrev pub FirstBreaking : View → ℕ → ℕ → Found → Type 0
-FirstBreaking v x a (Pair p q) = Breaks v x a p q × Clear v x a p q
-FirstBreaking v x a Nothing = (p q : ℕ) → Breaks v x a p q → ⊥
+-- what the search finds, as rows: two or none
+abbrev pub rowsFound : Found → List ℕ
+rowsFound (Pair p q) = p ∷ q ∷ []
+rowsFound Nothing = []

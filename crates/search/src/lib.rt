@@ -2,21 +2,22 @@
 // the right side with its leader on the left; the first breaking pair is the lowest leader that a row strays from,
 // and the lowest such row.
 // Relies on `partition` for the leaders of a left side and on the laws of `leaders`. Called by `dependency`.
-ghost use Prim.Native.Nat.{ℕ, _≤_, _<_};
+ghost use Prim.Native.Nat.{_≤_, _<_};
 ghost use mathlib.Core.Path.{_≡_};
 ghost use mathlib.Core.Bool.{not};
 ghost use lib.ListN.{getD, length};
 ghost use Rattle.columns.specs.Bound.{columnBound};
 ghost use Rattle.model.specs.Bounds.{row, rowBound};
+ghost use Rattle.model.specs.Pair.{firstPair};
 ghost use Rattle.leaders.specs.Keys.{keyView};
-ghost use Rattle.search.specs.Strays.{sameRight, Inside, strays as straysOf, MarkedMore, MarkedBelow, FirstStray};
-ghost use Rattle.search.specs.Strays.{FirstBreaking, follows as followsOf, rowAfter};
+ghost use Rattle.search.specs.Strays.{Inside, strays as straysOf, MarkedMore, MarkedBelow, FirstStray};
+ghost use Rattle.search.specs.Strays.{rowsFound, follows as followsOf, rowAfter};
 use leaders::ROWS;
 use leaders::SIZE;
 use model::ROW;
 use partition::leaders_of;
 
-// Two rows that break a dependency, the lower first, or that there are none.
+// The first two rows that break a dependency, the lower first, or that there are none.
 pub enum Found {
     Pair { first: u32, second: u32 },
     Nothing,
@@ -133,7 +134,7 @@ fn first_stray(
 // The first two rows that break the dependency of the left side x and the right side.
 pub fn first_pair(keys: &[u16; SIZE], n: u32, end: usize, x: u32, right: u32) -> Found
     requires { ⌜ (n ≤ columnBound) × (end ≤ rowBound) × ((right ≡ row → ⊥) → right < columnBound) ⌝ }
-    ensures { λ r. ⌜ FirstBreaking (keyView (now (keys .entry)) n end) x right r ⌝ }
+    ensures { λ r. ⌜ rowsFound r ≡ firstPair (keyView (now (keys .entry)) n end) x right ⌝ }
 {
     let mut rows = [0u16; ROWS];
     leaders_of(keys, n, end, x, &mut rows);

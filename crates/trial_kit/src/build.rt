@@ -69,6 +69,11 @@ pub fn flat(b: &mut [u8], n: u32, r: u32) -> usize {
     finish(b, next, 1, end)
 }
 
+// Writes another code in the first column of a row of such a table, of 16 columns.
+pub fn recode(b: &mut [u8], row: u32, code: u32) {
+    put4(b, 8 + 66 * row as usize, code);
+}
+
 // Two tables of so many columns, each with one row, the second under the first.
 pub fn two(b: &mut [u8], first: u32, second: u32) -> usize {
     let middle = table(b, 0, first, 65535, 1, true);

@@ -1,7 +1,8 @@
-//! One random catalogue with all its comparisons: sound, then damaged in several ways.
+//! One random catalogue with all its comparisons: sound, then damaged in several ways; and one that is made to break a
+//! dependency.
 
 use crate::trial::{negative, same, Outcome, Trial};
-use crate::{listings, packed, questions};
+use crate::{listings, packed, pairs, questions};
 use compare::ffi;
 use compare::lent::{Numbers, Placed};
 use compare::random;
@@ -23,6 +24,7 @@ pub fn run(trial: &mut Trial) -> Outcome {
         let file = random::damaged(&mut trial.random, &layout);
         damaged(trial, &file)?;
     }
+    pairs::run(trial)?;
     packed::run(trial, &layout.file)
 }
 

@@ -3,7 +3,7 @@
 
 use crate::catalogues::{check, damaged};
 use crate::trial::{Outcome, Trial, MANY_WORDS};
-use crate::{listings, packed, questions};
+use crate::{listings, packed, pairs, questions};
 use compare::lent::Placed;
 use compare::random::{Draft, DraftTable, Random};
 use compare::simple::{self, MISSING, NO_PARENT, ROWS, WORK_WORDS};
@@ -16,6 +16,7 @@ pub fn run(trial: &mut Trial) -> Outcome {
         flat(trial, columns, rows)?;
     }
     classes(trial)?;
+    pairs::large(trial)?;
     line(trial)
 }
 

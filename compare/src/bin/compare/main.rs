@@ -10,6 +10,7 @@ mod catalogues;
 mod fixed;
 mod listings;
 mod packed;
+mod pairs;
 mod questions;
 mod trial;
 

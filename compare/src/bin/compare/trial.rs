@@ -88,12 +88,17 @@ pub struct Seen {
 }
 
 /// The answers that a run of some length must have met.
-const ANSWERS: [&str; 11] = [
+const ANSWERS: [&str; 16] = [
     "check, sound",
     "ask, breaks",
     "ask, holds",
     "pair",
     "pair, none",
+    "first pair, far apart",
+    "first pair, among the last rows only",
+    "first pair, of several groups",
+    "first pair, not of the lowest second row",
+    "first pair, with several second rows",
     "list",
     "pack",
     "open",

@@ -1,10 +1,9 @@
 -- `dependency::pair` meets its contract.
-use mathlib.Core.Path.{subst}
+use mathlib.Core.Path.{sym, ap, _∙_}
 use lib.ListN.{length}
 use denote.Ref.{now}
-use Rattle.model.specs.Target.{view}
-use Rattle.search.specs.Strays.{FirstBreaking}
-use Rattle.dependency.proofs.Replies.{refused-number, question-posed, pair-refused, pair-none, pair-breaking}
+use Rattle.search.specs.Strays.{rowsFound}
+use Rattle.dependency.proofs.Replies.{refused-number, question-posed, pair-refused, pair-told}
 use Rattle.dependency.proofs.Replies.{words-kept, words-zeroed}
 use borrow.Author.Needs.{needs}
 use Rattle.dependency.proofs.pair.Statement.{statement}
@@ -53,11 +52,9 @@ returns-2 c =
     let a = c .before .before .before .before .before .before .before .before .before .before .before .before .args in
     let e = c .before .before .before .before .before .before .before .before .before .question-code .ensures in
     let z = c .before .before .before .before .before .before .before .before .if1 .left in
-    let h =
-    subst (FirstBreaking (view (now (a .cat)) (a .target)) (a .left) (a .right)) (c .before .first .given .1)
-    (c .before .before .before .breaking-pair .ensures) in
     let reply =
-    pair-breaking (now (a .cat)) (a .target) (a .left) (a .right) (length (now (a .work))) e z (h .0) in
+    pair-told (now (a .cat)) (a .target) (a .left) (a .right) (length (now (a .work))) e z
+    (sym (ap rowsFound (c .before .first .given .1)) ∙ c .before .before .before .breaking-pair .ensures) in
     let words =
     words-zeroed (now (a .cat)) (a .target) (a .left) (a .right) (now (a .work)) e z
     (c .before .before .before .before .before .before .zero-words .ensures) in
@@ -71,11 +68,9 @@ returns-3 c =
     let a = c .before .before .before .before .before .before .before .before .before .before .before .args in
     let e = c .before .before .before .before .before .before .before .before .question-code .ensures in
     let z = c .before .before .before .before .before .before .before .if1 .left in
-    let h =
-    subst (FirstBreaking (view (now (a .cat)) (a .target)) (a .left) (a .right)) (c .enum-told .given .1)
-    (c .before .before .breaking-pair .ensures) in
     let reply =
-    pair-none (now (a .cat)) (a .target) (a .left) (a .right) (length (now (a .work))) e z h in
+    pair-told (now (a .cat)) (a .target) (a .left) (a .right) (length (now (a .work))) e z
+    (sym (ap rowsFound (c .enum-told .given .1)) ∙ c .before .before .breaking-pair .ensures) in
     let words =
     words-zeroed (now (a .cat)) (a .target) (a .left) (a .right) (now (a .work)) e z
     (c .before .before .before .before .before .zero-words .ensures) in

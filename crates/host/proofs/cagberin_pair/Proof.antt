@@ -1,14 +1,9 @@
 -- `host::cagberin_pair` meets its contract.
 use borrow.Author.Needs.{needs}
-use mathlib.Core.Path.{refl, sym, ap, _∙_, subst}
-use lib.IntN.{ℤ}
-use lib.ListN.{length}
+use mathlib.Core.Path.{sym, ap, _∙_}
 use denote.Ref.{now}
-use Rattle.model.specs.declared.PairAnswer.{PairAnswer}
 use Rattle.model.specs.Reply.{pairReply}
-use Rattle.model.specs.Question.{PairMeaning}
-use Rattle.numbers.specs.Number.{pairSeen}
-use Rattle.numbers.proofs.Numbers.{read-back32, refused-seen}
+use Rattle.numbers.proofs.Numbers.{read-back32, same-found}
 use Rattle.host.proofs.cagberin_pair.Statement.{statement}
 use Rattle.host.proofs.cagberin_pair.Tie as tie
 
@@ -34,10 +29,8 @@ returns : tie.Need-returns
 returns c =
     let a = c .before .before .before .before .before .before .before .before .before .args in
     let told = c .before .before .before .before .before .pair .ensures in
-    let meant = PairMeaning (now (a .cat)) (a .target) (a .left) (a .right) (length (now (a .work))) in (
-      subst (λ (r : PairAnswer). meant (pairReply r)) (c .before .p .given .1) (told .0),
-      ((λ n. absurd (n refl)), told .1),
-    )
+    let s = same-found (sym (ap pairReply (c .before .p .given .1)) ∙ told .0) (now (a .first)) (now (a .second)) in
+    (s .0, (s .1, (s .2, told .1)))
 
 same-length-2 : tie.Need-same-length-2
 same-length-2 c = search needs
@@ -46,8 +39,8 @@ returns-2 : tie.Need-returns-2
 returns-2 c =
     let a = c .before .before .before .before .before .before .before .before .args in
     let told = c .before .before .before .before .pair .ensures in
-    let meant = PairMeaning (now (a .cat)) (a .target) (a .left) (a .right) (length (now (a .work))) in
-    (subst (λ (r : PairAnswer). meant (pairReply r)) (c .enum-told .given .1) (told .0), ((λ n. (refl, refl)), told .1))
+    let s = same-found (sym (ap pairReply (c .enum-told .given .1)) ∙ told .0) (now (a .first)) (now (a .second)) in
+    (s .0, (s .1, (s .2, told .1)))
 
 same-length-3 : tie.Need-same-length-3
 same-length-3 c = search needs
@@ -56,14 +49,9 @@ returns-3 : tie.Need-returns-3
 returns-3 c =
     let a = c .before .before .before .before .before .before .before .before .before .before .args in
     let told = c .before .before .before .before .before .before .pair .ensures in
-    let meant = PairMeaning (now (a .cat)) (a .target) (a .left) (a .right) (length (now (a .work))) in
-    let e =
-    ap (λ (z : ℤ). pairSeen z (now (a .first)) (now (a .second)))
-    (read-back32 (c .before .before .r .given .0 .0) (c .negative .ensures))
-    ∙ refused-seen (c .before .before .r .given .0 .0) (λ z. pairSeen z (now (a .first)) (now (a .second)))
-    (λ n. refl) in
-    let refusal = subst (λ (r : PairAnswer). meant (pairReply r)) (c .before .before .r .given .1) (told .0) in
-    (subst meant (sym e) refusal, ((λ n. (refl, refl)), told .1))
+    let g = c .before .before .r .given in
+    let s = same-found (sym (ap pairReply (g .1)) ∙ told .0) (now (a .first)) (now (a .second)) in
+    (read-back32 (g .0 .0) (c .negative .ensures) ∙ s .0, (s .1, (s .2, told .1)))
 
 pub cagberin-pair-spec : {M : Type 1} → statement M
 cagberin-pair-spec =

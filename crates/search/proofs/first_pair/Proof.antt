@@ -1,7 +1,7 @@
 -- `search::first_pair` meets its contract: the first row that strays from its leader.
 use denote.Ref.{now}
 use borrow.Author.Needs.{needs}
-use Rattle.search.proofs.Pairs.{led-inside, stray-breaking}
+use Rattle.search.proofs.Pairs.{led-inside, stray-first}
 use Rattle.search.proofs.first_pair.Statement.{statement}
 use Rattle.search.proofs.first_pair.Tie as tie
 
@@ -23,7 +23,7 @@ first-stray-requires c κs =
 returns : tie.Need-returns
 returns c =
     let a = c .before .before .before .before .before .before .before .before .args in
-    stray-breaking (now (a .keys)) _ (a .n) (a .end) (a .x) (a .right)
+    stray-first (now (a .keys)) _ (a .n) (a .end) (a .x) (a .right)
     (c .before .before .before .before .before .before .leaders-of .ensures .leads)
     (c .first-stray .result) (c .first-stray .ensures)
 

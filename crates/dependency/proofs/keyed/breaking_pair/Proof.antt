@@ -1,5 +1,6 @@
 -- `dependency::breaking_pair` meets its contract: what is first by the keys is first.
-use Rattle.dependency.proofs.Members.{posed-few, posed-short, posed-bound, posed-breaking}
+use mathlib.Core.Path.{_∙_}
+use Rattle.dependency.proofs.Members.{posed-few, posed-short, posed-bound, posed-pair}
 use borrow.Author.Needs.{needs}
 use Rattle.dependency.proofs.keyed.breaking_pair.Statement.{statement}
 use Rattle.dependency.proofs.keyed.breaking_pair.Tie as tie
@@ -23,9 +24,10 @@ first-pair-requires c κs =
 
 returns : tie.Need-returns
 returns c =
-    posed-breaking (c .before .before .before .before .before .before .before .pre) (c .first-pair .result)
+    c .first-pair .ensures
+    ∙ posed-pair (c .before .before .before .before .before .before .before .pre)
     (c .before .before .visible .ensures) (c .before .rows .ensures)
-    (c .before .before .before .before .lay-question .ensures) (c .first-pair .ensures)
+    (c .before .before .before .before .lay-question .ensures)
 
 pub breaking-pair-spec : {M : Type 1} → statement M
 breaking-pair-spec =
