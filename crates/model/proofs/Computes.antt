@@ -47,15 +47,15 @@ unfolding ones onesIn ifEq ifLt ifLe withoutOf inOrder bySizeFrom ofSize ofSizeF
     firstOf replyOf wordsAfter tables trailer tableAt columns parent rows rowAt parentRow cell tableEnd visible
     visibleIn inherited sets setsFrom checkCode checkMeaning sizeCode trailerCode startOf headCode boundCode parentCode
     widthCode extentCode rowCode tableCode leftCode holds breaks minimal allBelow agreeOn firstFrom firstRow secondRow
-    firstPair owner ownerIn ancestor ancestorIn cellsAgree agreeAt listed rightAt rightsFrom rightsIn rightsOf cells cellsFrom cellsOf entriesOf headOf codesOf
-    rowOf trailerOf rowsBytes tableBytes tablesBytes startsFrom encode album noRows oneMissing bothMissing equalRows
-    twoGroups groundsFrom notZero grounds cut noTable children
-    offsetsFrom manyTables longTrailer lateTable shortHead shortRow leftByte manyColumns rowsOnly manyRows rootedRoot
-    ownParent tooWide rootedRow unknownParentRow smallest mostColumns mostRows widest lateAndLarge largeAndRooted
+    firstPair owner ownerIn ancestor ancestorIn cellsAgree agreeAt listed rightAt rightsFrom rightsIn rightsOf cells
+    cellsFrom cellsOf entriesOf headOf codesOf rowOf trailerOf rowsBytes tableBytes tablesBytes startsFrom encode album
+    noRows oneMissing bothMissing equalRows twoGroups groundsFrom notZero grounds cut noTable children offsetsFrom
+    manyTables longTrailer lateTable shortHead shortRow leftByte manyColumns rowsOnly manyRows rootedRoot ownParent
+    tooWide rootedRow unknownParentRow smallest mostColumns mostRows widest lateAndLarge largeAndRooted
     ownParentAndWide wideAndLong longAndRooted rowThenTable rowThenByte inLine forked below offsetsBy12 deepest memberOf
-    targetCode leftSideCode rightSideCode sidesCode wordsCode questionCode askMeaning pairMeaning passed written placeCode roomCode
-    callCode runAfter workAfter firstCode earlier tailCode bytesOf entryAt countIn distanceIn entriesBytes packed
-    entriesFrom entriesHeld frontOf entryCode laterCode restCode entriesCode outputCode packCode packMeaning outputAfter
-    readCode openMeaning entriesRead frontRead readFrom readMeaning runRead readAt emptyList lostEntry answerText
-    listingText headLine refusedLine linesOf entryLine entryText rightText decimal decimalIn
+    targetCode leftSideCode rightSideCode sidesCode wordsCode questionCode askMeaning pairMeaning passed written
+    placeCode roomCode callCode runAfter workAfter firstCode earlier tailCode bytesOf entryAt countIn distanceIn
+    entriesBytes packed entriesFrom entriesHeld frontOf entryCode laterCode restCode entriesCode outputCode packCode
+    packMeaning outputAfter readCode openMeaning entriesRead frontRead readFrom readMeaning runRead readAt emptyList
+    lostEntry answerText listingText headLine refusedLine linesOf entryLine entryText rightText decimal decimalIn
 computes = tt
