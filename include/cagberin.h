@@ -2,7 +2,7 @@
  * cagberin.h - what determines what in a media catalogue.
  *
  * A media catalogue is a file of tables in a tree. The calls check one, say whether a dependency holds in it, give the
- * first two rows that break one, list all minimal dependencies and keys in steps, and pack and read such lists.
+ * first pair of rows that breaks one, list all minimal dependencies and keys in steps, and pack and read such lists.
  * examples/c/example.c makes each call.
  *
  * Link with libhost.a, an archive for x86-64 Linux. Of the outside it needs memcpy and memset, nothing else.
@@ -158,7 +158,7 @@ int32_t cagberin_ask(const uint8_t *cat, size_t cat_len, uint32_t target, uint32
 
 /*
  * Looks for the first breaking pair. A breaking pair is two rows of the target, the lower row first, that agree on the
- * left and disagree on the right; the first is the one with the lowest first row and, of those, the lowest second row.
+ * left and disagree on the right; the first is, of those with the lowest first row, the one with the lowest second row.
  *
  * Returns 1 if there is one, so the dependency doesn't hold, with its rows in *first and *second: always the same two
  * for the same catalogue and question. Returns 0 if there is none, so the dependency holds; *first and *second are then

@@ -58,7 +58,7 @@ pub fn ask(cat: &[u8], target: u32, left: u32, right: u32, work: &mut [u32]) -> 
     unsafe { raw::cagberin_ask(cat.as_ptr(), cat.len(), target, left, right, work.as_mut_ptr(), work.len()) }
 }
 
-/// 1 a pair, 0 none, or a refusal; the rows are written only on 1.
+/// 1 the first breaking pair, 0 none, or a refusal; the rows are written only on 1.
 pub fn pair(
     cat: &[u8],
     target: u32,

@@ -1,4 +1,5 @@
-//! The simple implementation on document 01's own cases: the album, K1 to K11 and the boundary cases.
+//! The simple implementation on document 01's own cases (the album, K1 to K11 and the boundary cases) and on the first
+//! of several breaking pairs.
 
 use compare::simple::*;
 

@@ -46,7 +46,7 @@ static void print_entry(struct cagberin_entry entry)
         printf("%d %d %d\n", entry.target, entry.left, entry.right);
 }
 
-/* Asks whether left gives right in the target, and shows the first two rows that break it. */
+/* Asks whether left gives right in the target, and shows the first breaking pair if not. */
 static int question(size_t len, uint32_t target, uint32_t left, uint32_t right)
 {
     uint32_t first, second;
@@ -62,7 +62,7 @@ static int question(size_t len, uint32_t target, uint32_t left, uint32_t right)
     if (found < 0)
         return refused("pair", found);
     if (found == 1)
-        printf("table %u: %u doesn't give %u, rows %u and %u are the first to break it\n", (unsigned)target,
+        printf("table %u: %u doesn't give %u, rows %u and %u are the first breaking pair\n", (unsigned)target,
                (unsigned)left, (unsigned)right, (unsigned)first, (unsigned)second);
     return 0;
 }

@@ -1,5 +1,6 @@
--- What the two contracts say in the words of demand 2: an answered question is 'holds' exactly if all rows that agree
--- on the left agree on the right; the pair is 'none' exactly then, and otherwise the first two rows that do not.
+-- What the two contracts say in the words of demand 2 and of document 02, a: an answered question is 'holds' exactly if
+-- all rows that agree on the left agree on the right; the pair is 'none' exactly then, and otherwise the first breaking
+-- pair.
 use Prim.Native.Nat.{ℕ}
 use mathlib.Core.Path.{_≡_, refl, sym, ap, ap₂, _∙_}
 use mathlib.Core.Logic.{_↔_}
@@ -17,9 +18,14 @@ use Rattle.model.specs.View.{Holds, holds}
 use Rattle.model.specs.Pair.{FirstPair, firstPair}
 use Rattle.model.specs.Target.{view}
 use Rattle.model.proofs.View.{holds-true, true-holds}
-use Rattle.model.proofs.Pair.{firstPair-is, none-holds}
+use Rattle.model.proofs.Pair.{firstPair-is, first-exists, none-holds}
 use Rattle.model.proofs.Target.{view-equivalence}
 use Rattle.dependency.proofs.Replies.{ask-meant, pair-meant}
+
+-- there is a first breaking pair exactly if the dependency does not hold
+pub pair-exists : (cat : List ℕ) (t x a : ℕ)
+    → ((p : ℕ) × (q : ℕ) × FirstPair (view cat t) x a p q) ↔ (Holds (view cat t) x a → ⊥)
+pair-exists cat t x a = first-exists (view cat t) x a (view-equivalence cat t)
 
 module _ (cat : List ℕ) (t x a w : ℕ) (z : questionCode cat t x a w ≡ 0) where
   -- what is answered is the first pair's rows
@@ -55,7 +61,7 @@ module _ (cat : List ℕ) (t x a w : ℕ) (z : questionCode cat t x a w ≡ 0) w
           let n : _≡_ {A = ℕ} 0 1 = cc in
           absurd (omega arith)
 
-  -- the pair is 'none' exactly if the dependency holds, and two rows exactly if they are the first that break it
+  -- the pair is 'none' exactly if the dependency holds, and two rows exactly if they are the first breaking pair
   pub pair-exactly : (r : PairAnswer) → pairReply r ≡ pairMeaning cat t x a w → (r ≡ pair-answer.Nothing)
       ↔ Holds (view cat t) x a
   pair-exactly r m = (

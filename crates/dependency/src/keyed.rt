@@ -78,7 +78,7 @@ pub fn holds(cat: &[u8], target: u32, left: u32, right: u32) -> bool
         != 0
 }
 
-// The first two rows that break it.
+// The first breaking pair.
 pub fn breaking_pair(cat: &[u8], target: u32, left: u32, right: u32) -> Found
     requires { ⌜ Posed (now cat) target left right ⌝ }
     ensures { λ r. ⌜ rowsFound r ≡ firstPair (view (now (cat .entry)) target) left right ⌝ }

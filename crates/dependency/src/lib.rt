@@ -1,5 +1,5 @@
-// The technician's two questions about a dependency: does it hold, and if not, which two rows are the first to break
-// it?
+// The technician's two questions about a dependency: does it hold, and if not, which is the first pair of rows that
+// breaks it?
 // Relies on `question` for what stands against a question, on `refusals` for the refusal that has a number and for the
 // work words, on `keys` for the keys of the members that a question looks at, on `partition` and `search`, which answer
 // it from keys alone, and on `layout` for rows and columns. Called by hosts and programs.
@@ -39,8 +39,8 @@ pub fn ask(cat: &[u8], target: u32, left: u32, right: u32, work: &mut [u32]) -> 
     AskAnswer::Breaks
 }
 
-// The first two rows that break the dependency (lowest first row, then lowest second row), or 'none' where it holds.
-// The work words as above.
+// The first breaking pair (lowest first row, then lowest second row), or 'none' where the dependency holds. The work
+// words as above.
 pub fn pair(cat: &[u8], target: u32, left: u32, right: u32, work: &mut [u32]) -> PairAnswer
     ensures { λ r. ⌜ pairReply r ≡ pairMeaning (now (cat .entry)) target left right (length (now (work .entry))) ⌝ }
     ensures { λ _.

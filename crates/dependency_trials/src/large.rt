@@ -19,7 +19,8 @@ pub fn trial_flat(name: &[u8], r: u32, left: u32, right: u32) {
     on_flat(name, r, left, right, &mut bytes);
 }
 
-// A trial of the key on one table of 16 columns and 4,096 rows, in which two rows have the codes of two others.
+// A trial of the key on one table of 16 columns and 4,096 rows: of each two rows named, the second has the first one's
+// code.
 fn on_recoded(name: &[u8], rows: [u32; 2], others: [u32; 2], bytes: &mut [u8]) {
     let n = trial_kit::flat(bytes, 16, 4096);
     trial_kit::recode(bytes, rows[1], rows[0]);

@@ -58,8 +58,8 @@ pub extern "C" fn cagberin_ask(
     }
 }
 
-// 1 with the first two rows that break the dependency (lowest first row, then lowest second row), or 0 where it holds;
-// the two are written only with 1. The work words as above.
+// 1 with the first breaking pair (lowest first row, then lowest second row), or 0 where the dependency holds; the two
+// rows are written only with 1. The work words as above.
 #[no_mangle]
 pub extern "C" fn cagberin_pair(
     cat: &[u8],

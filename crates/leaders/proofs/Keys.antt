@@ -8,7 +8,7 @@ use mathlib.Core.List.{List}
 use native.Mathlib.Decide.{ℕ-discrete}
 use native.Mathlib.Omega.{arith}
 use borrow.Author.Tests.{eq-eqb}
-use lib.Dec.{T, eqb}
+use lib.Dec.{T, eqb, ltb, ltb→lt}
 use Rattle.columns.specs.Bound.{columnBound}
 use Rattle.columns.specs.Set.{setBelow, withoutOf}
 use Rattle.columns.specs.Test.{pick}
@@ -16,10 +16,10 @@ use Rattle.columns.proofs.Bits.{bit-full}
 use Rattle.columns.proofs.SetBelow.{setBelow-same}
 use Rattle.model.specs.Bounds.{rowBound, row}
 use Rattle.model.specs.View.{View, Equivalence, In, isIn, Within, AgreeOn, agreeOn, agreeRight, holds, minimal}
-use Rattle.model.specs.View.{Breaks, allBelow}
+use Rattle.model.specs.View.{breaks, allBelow}
 use Rattle.model.specs.Pair.{firstPair}
 use Rattle.model.proofs.Truth.{eqb-is, same-test}
-use Rattle.model.proofs.View.{isIn-is, agreeOn-is, without-within}
+use Rattle.model.proofs.View.{isIn-is, without-within}
 use Rattle.model.proofs.Pair.{same-pair}
 use Rattle.table.specs.Broken.{agreeSetOf, Occurs, Table, minimalMask}
 use Rattle.model.specs.Rights.{rightAt}
@@ -75,6 +75,10 @@ implied-same : (t a b : Bool) → (T t → a ≡ b) → (not t || a) ≡ (not t 
 implied-same true a b e = e tt
 implied-same false a b e = refl
 
+both-same : (t : Bool) {a b : Bool} → (T t → a ≡ b) → (t && a) ≡ (t && b)
+both-same true e = e tt
+both-same false e = refl
+
 -- a right side that keys tell of: the row, or a member that they are laid for
 abbrev pub KeyedRight : ℕ → ℕ → ℕ → Type 0
 KeyedRight n set a = (a ≡ row) ⊎ ((a < n) × In a set)
@@ -113,37 +117,24 @@ module _ {v : View} {set n end : ℕ} {keys : List ℕ} (keyed : Keyed v set n e
       w : View
       w = keyView keys n end
 
-  -- the same rows break a dependency, so the first of them are the same
   pub keyed-pair : (y a : ℕ) → Within (keyView keys n end) y set → KeyedRight n set a
       → firstPair v y a ≡ firstPair (keyView keys n end) y a
-  keyed-pair y a within right = same-pair v w y y a a (λ p q. (there p q, back p q))
+  unfolding breaks
+  keyed-pair y a within right = same-pair v w y a same
     where
       w : View
       w = keyView keys n end
 
-      there : (p q : ℕ) → Breaks v y a p q → Breaks w y a p q
-      there p q b =
-          let l = b .lower in
-          let h : q < end = omega (arith, b .exists, keyed .rows) in
-          record {
-            lower = l;
-            exists = h;
-            left = agreeOn-is w y p q .0
-                (subst T (keyed-agreeOn y p q within (omega arith) h) (agreeOn-is v y p q .1 (b .left)));
-            right = λ t. b .right (subst T (sym (keyed-right a p q right (omega arith) h)) t);
-          }
-
-      back : (p q : ℕ) → Breaks w y a p q → Breaks v y a p q
-      back p q b =
-          let l = b .lower in
-          let h = b .exists in
-          record {
-            lower = l;
-            exists = omega (arith, keyed .rows);
-            left = agreeOn-is v y p q .0
-                (subst T (sym (keyed-agreeOn y p q within (omega arith) h)) (agreeOn-is w y p q .1 (b .left)));
-            right = λ t. b .right (subst T (keyed-right a p q right (omega arith) h) t);
-          }
+      same : (p q : ℕ) → breaks v y a p q ≡ breaks w y a p q
+      same p q =
+          ap (λ (m : ℕ). ltb p q && (ltb q m && (agreeOn v y p q && not (agreeRight v a p q)))) (keyed .rows)
+          ∙ both-same (ltb p q) (λ t. both-same (ltb q end) (λ u. sides (ltb→lt p q t) (ltb→lt q end u)))
+        where
+          sides : p < q → q < end → (agreeOn v y p q && not (agreeRight v a p q))
+              ≡ (agreeOn w y p q && not (agreeRight w a p q))
+          sides l h =
+              ap₂ (λ (s t : Bool). s && not t) (keyed-agreeOn y p q within (omega arith) h)
+              (keyed-right a p q right (omega arith) h)
 
   pub keyed-minimal : (y a : ℕ) → Within (keyView keys n end) y set → KeyedRight n set a
       → minimal v y a ≡ minimal (keyView keys n end) y a

@@ -138,17 +138,16 @@ module _ (v : View) (eq : Equivalence v) where
   pub no-stray-holds : (x a : ℕ) → ((q : ℕ) → Strays v x a q → ⊥) → (p q : ℕ) → Breaks v x a p q → ⊥
   no-stray-holds x a none p q b = let r = breaks-strays x a p q b in none (r .0) (r .3)
 
-  -- the first two rows that break a dependency: the lowest row that strays of those with the lowest leader, and its
-  -- leader
+  -- the first breaking pair: the lowest leader that a row strays from, and the lowest such row
   pub first-pair : (x a p q : ℕ) → Strays v x a q → p ≡ leaderOf v x q
       → ((r : ℕ) → leaderOf v x r < p → Strays v x a r → ⊥)
       → ((r : ℕ) → r < q → leaderOf v x r ≡ p → Strays v x a r → ⊥)
       → FirstPair v x a p q
   first-pair x a p q s e lower earlier =
       record {
-        breaks = subst (λ (r : ℕ). Breaks v x a r q) (sym e) (strays-breaks x a q s);
-        first = λ m n b l. let r = breaks-strays x a m n b in lower (r .0) (omega (arith, r .2)) (r .3);
-        second = λ n b l.
+        breaking = subst (λ (r : ℕ). Breaks v x a r q) (sym e) (strays-breaks x a q s);
+        lowestFirst = λ m n b l. let r = breaks-strays x a m n b in lower (r .0) (omega (arith, r .2)) (r .3);
+        lowestSecond = λ n b l.
             let r = breaks-strays x a p n b in
             at (r .0) (omega (arith, r .1)) (r .2) (r .3) (decLt (leaderOf v x (r .0)) p);
       }

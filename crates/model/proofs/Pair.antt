@@ -6,7 +6,7 @@ use mathlib.Core.Logic.{_⊎_, inl, inr, _↔_}
 use mathlib.Core.List.{[], _∷_}
 use native.Mathlib.Decide.{decLt}
 use native.Mathlib.Omega.{arith}
-use lib.Dec.{ltb, ltb→lt, lt→ltb}
+use lib.Dec.{T, ltb, ltb→lt, lt→ltb}
 use Rattle.columns.proofs.Test.{ifLt-yes, ifLt-no}
 use Rattle.model.specs.View.{View, Equivalence, Holds, Breaks, breaks}
 use Rattle.model.specs.Pair.{FirstPair, firstRow, secondRow, firstPair}
@@ -19,14 +19,14 @@ module _ (v : View) (x a : ℕ) where
   first-only p q m n f g = (same, other)
     where
       same : p ≡ m
-      same = omega (arith, f .first m n (g .breaks), g .first p q (f .breaks))
+      same = omega (arith, f .lowestFirst m n (g .breaking), g .lowestFirst p q (f .breaking))
 
       other : q ≡ n
       other =
           omega (
             arith,
-            f .second n (subst (λ (r : ℕ). Breaks v x a r n) (sym same) (g .breaks)),
-            g .second q (subst (λ (r : ℕ). Breaks v x a r q) same (f .breaks)),
+            f .lowestSecond n (subst (λ (r : ℕ). Breaks v x a r n) (sym same) (g .breaking)),
+            g .lowestSecond q (subst (λ (r : ℕ). Breaks v x a r q) same (f .breaking)),
           )
 
   second-that : (p : ℕ) → FirstThat (breaks v x a p) (v .rows) 0 (secondRow v x a p)
@@ -52,9 +52,9 @@ module _ (v : View) (x a : ℕ) where
       let p = firstRow v x a in
       let h = ltb→lt (secondRow v x a p) (v .rows) (first-that .passes (omega arith)) in
       record {
-        breaks = breaks-is v x a p (secondRow v x a p) .0 (second-that p .passes (omega arith));
-        first = first-least;
-        second = second-least p;
+        breaking = breaks-is v x a p (secondRow v x a p) .0 (second-that p .passes (omega arith));
+        lowestFirst = first-least;
+        lowestSecond = second-least p;
       }
 
   none : (firstRow v x a < v .rows → ⊥) → (p q : ℕ) → Breaks v x a p q → ⊥
@@ -92,7 +92,7 @@ module _ (v : View) (x a : ℕ) where
       back f (inl (m, n, g, e)) =
           let h = first-only m n p q g f in
           e ∙ ap₂ (λ (i j : ℕ). i ∷ j ∷ []) (h .0) (h .1)
-      back f (inr (n, e)) = absurd (n p q (f .breaks))
+      back f (inr (n, e)) = absurd (n p q (f .breaking))
 
   -- it computes none exactly if no two rows break the dependency
   pub none-is : (firstPair v x a ≡ []) ↔ ((p q : ℕ) → Breaks v x a p q → ⊥)
@@ -103,13 +103,13 @@ module _ (v : View) (x a : ℕ) where
       there e (inr (n, g)) = n
 
       back : ((p q : ℕ) → Breaks v x a p q → ⊥) → Told → firstPair v x a ≡ []
-      back n (inl (p, q, f, e)) = absurd (n p q (f .breaks))
+      back n (inl (p, q, f, e)) = absurd (n p q (f .breaking))
       back n (inr (m, e)) = e
 
   -- there is one exactly if the dependency does not hold, where agreement is an equivalence
   module _ (eq : Equivalence v) where
     pub first-exists : ((p : ℕ) × (q : ℕ) × FirstPair v x a p q) ↔ (Holds v x a → ⊥)
-    first-exists = (λ f h. breaks-not-holds (f .2 .breaks) h, λ n. at n told)
+    first-exists = (λ f h. breaks-not-holds (f .2 .breaking) h, λ n. at n told)
       where
         at : (Holds v x a → ⊥) → Told → (p : ℕ) × (q : ℕ) × FirstPair v x a p q
         at n (inl (p, q, f, e)) = (p, q, f)
@@ -121,16 +121,22 @@ module _ (v : View) (x a : ℕ) where
       λ h. none-is .1 (λ p q b. breaks-not-holds b h),
     )
 
--- where the same rows break two dependencies, they have the same first pair
-pub same-pair : (v w : View) (x y a b : ℕ) → ((p q : ℕ) → Breaks v x a p q ↔ Breaks w y b p q)
-    → firstPair v x a ≡ firstPair w y b
-same-pair v w x y a b same = at (told v x a)
+-- where the same rows break a dependency in two views, its first pair is the same
+pub same-pair : (v w : View) (x a : ℕ) → ((p q : ℕ) → breaks v x a p q ≡ breaks w x a p q)
+    → firstPair v x a ≡ firstPair w x a
+same-pair v w x a same = at (told v x a)
   where
-    at : Told v x a → firstPair v x a ≡ firstPair w y b
+    there : (p q : ℕ) → Breaks v x a p q → Breaks w x a p q
+    there p q b = breaks-is w x a p q .0 (subst T (same p q) (breaks-is v x a p q .1 b))
+
+    back : (p q : ℕ) → Breaks w x a p q → Breaks v x a p q
+    back p q b = breaks-is v x a p q .0 (subst T (sym (same p q)) (breaks-is w x a p q .1 b))
+
+    at : Told v x a → firstPair v x a ≡ firstPair w x a
     at (inl (p, q, f, e)) =
-        e ∙ sym (firstPair-is w y b p q .1 (record {
-          breaks = same p q .0 (f .breaks);
-          first = λ m n h l. f .first m n (same m n .1 h) l;
-          second = λ n h l. f .second n (same p n .1 h) l;
+        e ∙ sym (firstPair-is w x a p q .1 (record {
+          breaking = there p q (f .breaking);
+          lowestFirst = λ m n b l. f .lowestFirst m n (back m n b) l;
+          lowestSecond = λ n b l. f .lowestSecond n (back p n b) l;
         }))
-    at (inr (n, e)) = e ∙ sym (none-is w y b .1 (λ p q h. n p q (same p q .1 h)))
+    at (inr (n, e)) = e ∙ sym (none-is w x a .1 (λ p q b. n p q (back p q b)))

@@ -133,12 +133,6 @@ minimal-false v x a e m = false-is e (minimal-is v x a .1 m)
 pub false-minimal : (v : View) (x a : ℕ) → (Minimal v x a → ⊥) → minimal v x a ≡ false
 false-minimal v x a n = is-false (λ t. n (minimal-is v x a .0 t))
 
-pub agreeOn-true : (v : View) (x p q : ℕ) → agreeOn v x p q ≡ true → AgreeOn v x p q
-agreeOn-true v x p q e = agreeOn-is v x p q .0 (true-is e)
-
-pub agreeOn-false : (v : View) (x p q : ℕ) → agreeOn v x p q ≡ false → AgreeOn v x p q → ⊥
-agreeOn-false v x p q e h = false-is e (agreeOn-is v x p q .1 h)
-
 -- a failed test has two rows, in some order, that agree on the left and disagree on the right
 pub record Apart (v : View) (x a p q : ℕ) : Type 0 where
   pub one : p < v .rows

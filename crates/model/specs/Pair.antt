@@ -9,12 +9,12 @@ use Rattle.model.specs.First.{firstFrom}
 use Rattle.model.specs.View.{View, Breaks, breaks}
 
 pub record FirstPair (v : View) (x a p q : ℕ) : Type 0 where
-  -- the two rows break it
-  pub breaks : Breaks v x a p q
+  -- it breaks
+  pub breaking : Breaks v x a p q
   -- no breaking pair has a lower first row
-  pub first : (m n : ℕ) → Breaks v x a m n → m < p → ⊥
-  -- and none with that first row has a lower second
-  pub second : (n : ℕ) → Breaks v x a p n → n < q → ⊥
+  pub lowestFirst : (m n : ℕ) → Breaks v x a m n → m < p → ⊥
+  -- none with that first row has a lower second
+  pub lowestSecond : (n : ℕ) → Breaks v x a p n → n < q → ⊥
 
 -- the lowest second row of the breaking pairs whose first row is p, or the number of rows where there is none
 unfoldable pub secondRow : View → ℕ → ℕ → ℕ → ℕ

@@ -1,5 +1,5 @@
--- What calls reply, and what they leave in lent memory: questions, pairs and listing calls on the album, and a packed
--- list. And what the listing program prints beside the album's lines.
+-- What calls reply, and what they leave in lent memory: questions, pairs and listing calls on small catalogues, and a
+-- packed list. And what the listing program prints beside the album's lines.
 use Prim.Native.Nat.{ℕ, _≤_, _<_}
 use mathlib.Core.Path.{_≡_}
 use mathlib.Core.List.{List, [], _∷_, _++_}
@@ -21,7 +21,7 @@ use Rattle.model.specs.RefusedCalls.{lostEntry}
 use Rattle.model.specs.declared.Entry.{Entry}
 use Rattle.model.specs.declared.ReadAnswer.the-variants.{Next, End}
 
--- K1 and K2 as questions and as pairs, table 1's keys, and refused ones
+-- K1 and K2 as questions and as pairs, table 1's keys, the first of several pairs, and refused ones
 pub record QuestionReplies : Type 0 where
   pub k1 : askMeaning album 1 1 2 16384 ≡ answered (1 ∷ [])
   pub k2 : askMeaning album 1 2 2 16384 ≡ answered (0 ∷ [])
@@ -32,10 +32,10 @@ pub record QuestionReplies : Type 0 where
   pub refused10 : askMeaning album 1 0 0 16384 ≡ refused 10
   pub refused11 : askMeaning album 1 1 2 16383 ≡ refused 11
   pub refused6 : askMeaning tooWide 0 0 row 0 ≡ refused 6
-  -- the pair replies 'none' where it holds, and where it breaks the first two rows: of 0 and 3, 0 and 4, 1 and 2, 3 and
-  -- 4 those with the lowest first row, and of these those with the lowest second
+  -- the pair replies 'none' where it holds, and the two rows where it breaks
   pub pairOfK1 : pairMeaning album 1 1 2 16384 ≡ answered []
   pub pairOfK2 : pairMeaning album 1 2 2 16384 ≡ answered (0 ∷ 2 ∷ [])
+  -- the first of the pairs 0 and 3, 0 and 4, 1 and 2, 3 and 4; and, where the row is the right, of 0 and 1, 2 and 3
   pub pairOfGroups : pairMeaning twoGroups 0 1 1 16384 ≡ answered (0 ∷ 3 ∷ [])
   pub pairOfRow : pairMeaning twoGroups 0 2 row 16384 ≡ answered (0 ∷ 1 ∷ [])
   pub pairRefused8 : pairMeaning album 2 1 2 16384 ≡ refused 8

@@ -71,7 +71,7 @@ pub enum AskAnswer {
     Refused(Refusal),
 }
 
-// The first two rows that break the dependency, the lower first, or 'none'.
+// The first pair of rows that breaks the dependency, the lower row first, or 'none'.
 pub enum PairAnswer {
     Rows { first: u32, second: u32 },
     Nothing,

@@ -11,8 +11,8 @@ abbrev pub numberOf : ℕ → Reply → ℤ
 numberOf i (refused n) = negℤ (pos n)
 numberOf i (answered vs) = pos (getD vs i 0)
 
--- what stands behind a lent number afterwards: the answer's value at an index, or what stood there after a refusal and
--- where the answer has no such value
+-- what a lent number is afterwards: the answer's value at an index, or, after a refusal and where the answer has no
+-- such value, what it was before
 abbrev pub valueOr : ℕ → ℕ → Reply → ℕ
 valueOr i old (refused n) = old
 valueOr i old (answered vs) = getD vs i old

@@ -1,5 +1,5 @@
--- The search for two rows that break a dependency, by the rows that stray from their leaders, in the order of the
--- leader and then of the row.
+-- The search for the first breaking pair, by the rows that stray from their leaders, in the order of the leader and
+-- then of the row.
 use Prim.Native.Nat.{ℕ, _+_, _≤_, _<_}
 use mathlib.Core.Path.{_≡_}
 use mathlib.Core.Logic.{_⊎_}

@@ -1,6 +1,6 @@
-// Not for callers: the first two rows that break a dependency, from keys alone. A row strays if it does not agree on
-// the right side with its leader on the left; the first breaking pair is the lowest leader that a row strays from,
-// and the lowest such row.
+// Not for callers: the first breaking pair of a dependency, from keys alone. A row strays if it does not agree on the
+// right side with its leader on the left; the first breaking pair is the lowest leader that a row strays from, and the
+// lowest such row.
 // Relies on `partition` for the leaders of a left side and on the laws of `leaders`. Called by `dependency`.
 ghost use Prim.Native.Nat.{_≤_, _<_};
 ghost use mathlib.Core.Path.{_≡_};
@@ -17,7 +17,7 @@ use leaders::SIZE;
 use model::ROW;
 use partition::leaders_of;
 
-// The first two rows that break a dependency, the lower first, or that there are none.
+// The first breaking pair, the lower row first, or that there is none.
 pub enum Found {
     Pair { first: u32, second: u32 },
     Nothing,
@@ -131,7 +131,7 @@ fn first_stray(
     found
 }
 
-// The first two rows that break the dependency of the left side x and the right side.
+// The first breaking pair of the left side x and the right side.
 pub fn first_pair(keys: &[u16; SIZE], n: u32, end: usize, x: u32, right: u32) -> Found
     requires { ⌜ (n ≤ columnBound) × (end ≤ rowBound) × ((right ≡ row → ⊥) → right < columnBound) ⌝ }
     ensures { λ r. ⌜ rowsFound r ≡ firstPair (keyView (now (keys .entry)) n end) x right ⌝ }

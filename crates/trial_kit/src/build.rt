@@ -69,7 +69,7 @@ pub fn flat(b: &mut [u8], n: u32, r: u32) -> usize {
     finish(b, next, 1, end)
 }
 
-// Writes another code in the first column of a row of such a table, of 16 columns.
+// Overwrites the code in the first column of a row of such a table, of 16 columns.
 pub fn recode(b: &mut [u8], row: u32, code: u32) {
     put4(b, 8 + 66 * row as usize, code);
 }

@@ -1,5 +1,5 @@
-//! Fixed cases before the random ones: the album and its packed list throughout, and catalogues at and past the
-//! bounds.
+//! Fixed cases before the random ones: the album and its packed list throughout, catalogues at and past the bounds,
+//! and large ones that are made to break a dependency.
 
 use crate::catalogues::{check, damaged};
 use crate::trial::{Outcome, Trial, MANY_WORDS};

@@ -2,25 +2,36 @@
 
 use crate::catalogues::check;
 use crate::questions;
-use crate::trial::{Outcome, Trial};
+use crate::trial::{expect, same, Outcome, Trial};
 use compare::lent::Placed;
 use compare::random::{Draft, DraftTable, Random};
 use compare::simple::{self, Catalogue, MISSING, NO_PARENT, ROW, ROWS};
 
-/// Where the rows of a group stand: its first row among the lowest and the others among the highest, all among the last
-/// four, or anywhere.
+/// Where the rows of a group stand: its first row among the lowest and the others among the highest, or all among the
+/// last four, or anywhere, with two groups at least.
 #[derive(Clone, Copy)]
 enum Spread {
     Apart,
     Last,
-    Anywhere,
+    Several,
 }
 
-const SPREADS: [Spread; 3] = [Spread::Apart, Spread::Last, Spread::Anywhere];
+const SPREADS: [Spread; 3] = [Spread::Apart, Spread::Last, Spread::Several];
+
+impl Spread {
+    /// What the first pair of such a catalogue is like.
+    fn kind(self) -> &'static str {
+        match self {
+            Spread::Apart => "first pair, far apart",
+            Spread::Last => "first pair, among the last rows only",
+            Spread::Several => "first pair, of several groups",
+        }
+    }
+}
 
 /// One catalogue of a few rows.
 pub fn run(trial: &mut Trial) -> Outcome {
-    let rows = trial.random.from_to(8, 64);
+    let rows = trial.random.from_to(16, 64);
     let spread = trial.random.pick(&SPREADS);
     planted(trial, rows, spread)
 }
@@ -33,7 +44,7 @@ pub fn large(trial: &mut Trial) -> Outcome {
     Ok(())
 }
 
-/// Column 0 gives column 1 but for the groups. The group's column is in the same table or in the one above.
+/// Column 0 gives column 1 but among the rows of a group. Column 0 is in the target or in the table above.
 fn planted(trial: &mut Trial, rows: usize, spread: Spread) -> Outcome {
     let groups = groups(&mut trial.random, rows, spread);
     let (lefts, rights) = codes(&mut trial.random, &groups);
@@ -47,16 +58,23 @@ fn planted(trial: &mut Trial, rows: usize, spread: Spread) -> Outcome {
     for (left, right) in [(1, 1), (1, ROW), (2, ROW), (0, 1)] {
         questions::one(trial, &placed, &catalogue, target, left, right)?;
     }
-    count(trial, &catalogue, target as usize, &groups);
-    Ok(())
+    let kinds = kinds(&catalogue, target as usize, &groups);
+    expect(
+        kinds.contains(&spread.kind()),
+        || "the generator".into(),
+        "its catalogue is not of the kind it is made for",
+    )?;
+    kinds.into_iter().for_each(|kind| trial.seen.answer(kind));
+    same(|| "the catalogue after all calls".into(), placed.file(), &file)
 }
 
 /// The group of each row, if it is in one.
 fn groups(random: &mut Random, rows: usize, spread: Spread) -> Vec<Option<usize>> {
     let mut groups = vec![None; rows];
     let (count, size) = match spread {
+        Spread::Apart => (random.from_to(1, 4), random.from_to(2, 4)),
         Spread::Last => (random.from_to(1, 2), 2),
-        _ => (random.from_to(1, 4), random.from_to(2, 4)),
+        Spread::Several => (random.from_to(2, 4), random.from_to(2, 4)),
     };
     for group in 0..count {
         for member in 0..size {
@@ -64,7 +82,7 @@ fn groups(random: &mut Random, rows: usize, spread: Spread) -> Vec<Option<usize>
                 Spread::Apart if member == 0 => 0..rows / 4,
                 Spread::Apart => rows - rows / 4..rows,
                 Spread::Last => rows - 4..rows,
-                Spread::Anywhere => 0..rows,
+                Spread::Several => 0..rows,
             };
             let free: Vec<usize> = part.filter(|row| groups[*row].is_none()).collect();
             if !free.is_empty() {
@@ -109,28 +127,30 @@ fn in_two_tables(lefts: &[u32], rights: &[u32]) -> Vec<u8> {
     Draft { tables: vec![upper, DraftTable { columns: 1, parent: 0, rows: lower }] }.file()
 }
 
-/// Counts what the first pair of column 0 and column 1 is like: a run must have met each.
-fn count(trial: &mut Trial, catalogue: &Catalogue, target: usize, groups: &[Option<usize>]) {
+/// What the first pair of column 0 and column 1 is like.
+fn kinds(catalogue: &Catalogue, target: usize, groups: &[Option<usize>]) -> Vec<&'static str> {
     let rows = groups.len();
     let below = |second: usize| (0..second).map(move |first| (first, second));
     let breaking = |(first, second): &(usize, usize)| simple::breaks(catalogue, target, 1, 1, *first, *second);
     let mut pairs: Vec<(usize, usize)> =
         (0..rows).filter(|row| groups[*row].is_some()).flat_map(below).filter(breaking).collect();
     pairs.sort();
-    let Some(&(first, second)) = pairs.first() else { return };
+    let (first, second) = pairs[0];
+    let mut kinds = Vec::new();
     if second - first > rows / 2 {
-        trial.seen.answer("first pair, far apart");
+        kinds.push(Spread::Apart.kind());
     }
-    if pairs.iter().all(|(first, _)| *first >= rows - 4) {
-        trial.seen.answer("first pair, among the last rows only");
+    if first >= rows - 4 {
+        kinds.push(Spread::Last.kind());
     }
     if pairs.iter().any(|(row, _)| groups[*row] != groups[first]) {
-        trial.seen.answer("first pair, of several groups");
+        kinds.push(Spread::Several.kind());
     }
     if pairs.iter().any(|(_, row)| *row < second) {
-        trial.seen.answer("first pair, not of the lowest second row");
+        kinds.push("first pair, not of the lowest second row");
     }
     if pairs.iter().any(|(row, other)| *row == first && *other > second) {
-        trial.seen.answer("first pair, with several second rows");
+        kinds.push("first pair, with several second rows");
     }
+    kinds
 }
