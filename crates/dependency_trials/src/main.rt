@@ -97,8 +97,8 @@ fn deep_tables() {
 
 // The first of several breaking pairs: the lowest first row, then the lowest second row.
 fn first_pairs() {
-    trial(b"rows 0 3, 0 4, 1 2, 3 4", &GROUPS, 0, 1, 1);
-    trial(b"rows 0 1, 2 3", &GROUPS, 0, 2, 255);
+    trial(b"rows 0 4, 0 5, 1 2, 4 5", &GROUPS, 0, 1, 1);
+    trial(b"rows 0 1, 0 3, 1 3, 2 4", &GROUPS, 0, 2, 255);
     trial(b"every two rows", &GROUPS, 0, 0, 255);
     trial_recoded(b"4096 rows, the first and the last", [0, 4095], [0, 4095]);
     trial_recoded(b"4096 rows, the last two", [4094, 4095], [4094, 4095]);

@@ -43,11 +43,11 @@ equalRows =
     ∷ content 1 0 ((0, 7 ∷ []) ∷ (0, 7 ∷ []) ∷ [])
     ∷ [])
 
--- two columns and five rows: {0} does not give 1 among the rows 0, 3 and 4, nor among the rows 1 and 2
+-- two columns and six rows: {0} does not give 1 among the rows 0, 4 and 5, nor among the rows 1 and 2
 unfoldable pub twoGroups : List ℕ
 twoGroups =
     encode
     (content 2 noParent
-    ((noParent, 1 ∷ 1 ∷ []) ∷ (noParent, 2 ∷ 1 ∷ []) ∷ (noParent, 2 ∷ 2 ∷ []) ∷ (noParent, 1 ∷ 2 ∷ [])
-    ∷ (noParent, 1 ∷ 3 ∷ []) ∷ [])
+    ((noParent, 1 ∷ 1 ∷ []) ∷ (noParent, 2 ∷ 1 ∷ []) ∷ (noParent, 2 ∷ 2 ∷ []) ∷ (noParent, 3 ∷ 1 ∷ [])
+    ∷ (noParent, 1 ∷ 2 ∷ []) ∷ (noParent, 1 ∷ 3 ∷ []) ∷ [])
     ∷ [])

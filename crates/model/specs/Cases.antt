@@ -51,10 +51,10 @@ pub record Cases : Type 0 where
   pub k11 : (s : Seen Entry) → s .place ≡ 10 → workBound ≤ length (s .work) → ListMeaning album s
       → (s .reply ≡ answered (10 ∷ 0 ∷ 0 ∷ [])) × (s .runThen ≡ s .run)
   -- of four breaking pairs the first: the lowest first row, then the lowest second row
-  pub firstOfGroups : FirstPair (view twoGroups 0) 1 1 0 3
-  pub laterSecond : Breaks (view twoGroups 0) 1 1 0 4
+  pub firstOfGroups : FirstPair (view twoGroups 0) 1 1 0 4
+  pub laterSecond : Breaks (view twoGroups 0) 1 1 0 5
   pub lowerSecond : Breaks (view twoGroups 0) 1 1 1 2
-  pub lastOfGroups : Breaks (view twoGroups 0) 1 1 3 4
+  pub lastOfGroups : Breaks (view twoGroups 0) 1 1 4 5
   -- the album's file, what its check answers, and its full listing
   pub albumLength : length album ≡ 84
   pub albumCheck : checkMeaning album ≡ answered (2 ∷ 10 ∷ [])

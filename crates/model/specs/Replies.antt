@@ -35,8 +35,9 @@ pub record QuestionReplies : Type 0 where
   -- the pair replies 'none' where it holds, and the two rows where it breaks
   pub pairOfK1 : pairMeaning album 1 1 2 16384 ≡ answered []
   pub pairOfK2 : pairMeaning album 1 2 2 16384 ≡ answered (0 ∷ 2 ∷ [])
-  -- the first of the pairs 0 and 3, 0 and 4, 1 and 2, 3 and 4; and, where the row is the right, of 0 and 1, 2 and 3
-  pub pairOfGroups : pairMeaning twoGroups 0 1 1 16384 ≡ answered (0 ∷ 3 ∷ [])
+  -- the first of the pairs 0 and 4, 0 and 5, 1 and 2, 4 and 5; and, where the row is the right, of 0 and 1, 0 and 3, 1
+  -- and 3, 2 and 4
+  pub pairOfGroups : pairMeaning twoGroups 0 1 1 16384 ≡ answered (0 ∷ 4 ∷ [])
   pub pairOfRow : pairMeaning twoGroups 0 2 row 16384 ≡ answered (0 ∷ 1 ∷ [])
   pub pairRefused8 : pairMeaning album 2 1 2 16384 ≡ refused 8
   pub pairRefused9 : pairMeaning album 1 8 row 16384 ≡ refused 9

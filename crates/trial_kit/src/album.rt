@@ -284,14 +284,14 @@ pub const THREE: [u8; 84] = [
     0,
 ];
 
-// Two columns and five rows: the first column doesn't give the second among the rows 0, 3 and 4, nor among the rows 1
+// Two columns and six rows: the first column doesn't give the second among the rows 0, 4 and 5, nor among the rows 1
 // and 2.
-pub const GROUPS: [u8; 66] = [
+pub const GROUPS: [u8; 76] = [
     2,
     0,
     255,
     255,
-    5,
+    6,
     0,
     255,
     255,
@@ -320,6 +320,16 @@ pub const GROUPS: [u8; 66] = [
     0,
     0,
     2,
+    0,
+    0,
+    0,
+    255,
+    255,
+    3,
+    0,
+    0,
+    0,
+    1,
     0,
     0,
     0,
@@ -349,7 +359,7 @@ pub const GROUPS: [u8; 66] = [
     0,
     1,
     0,
-    56,
+    66,
     0,
     0,
     0,

@@ -5,7 +5,7 @@ use crate::questions;
 use crate::trial::{expect, same, Outcome, Trial};
 use compare::lent::Placed;
 use compare::random::{Draft, DraftTable, Random};
-use compare::simple::{self, Catalogue, MISSING, NO_PARENT, ROW, ROWS};
+use compare::simple::{self, MISSING, NO_PARENT, ROW, ROWS};
 
 /// Where the rows of a group stand: its first row among the lowest and the others among the highest, or all among the
 /// last four, or anywhere, with two groups at least.
@@ -32,33 +32,36 @@ impl Spread {
 /// One catalogue of a few rows.
 pub fn run(trial: &mut Trial) -> Outcome {
     let rows = trial.random.from_to(16, 64);
+    let (columns, tables) = (trial.random.from_to(1, 3), trial.random.from_to(1, 3));
     let spread = trial.random.pick(&SPREADS);
-    planted(trial, rows, spread)
+    planted(trial, rows, columns, tables, spread)
 }
 
-/// As many rows as there may be, with each spread.
+/// As many rows as there may be, with each spread, in one table and in three.
 pub fn large(trial: &mut Trial) -> Outcome {
     for spread in SPREADS {
-        planted(trial, ROWS, spread)?;
+        planted(trial, ROWS, 1, 1, spread)?;
+        planted(trial, ROWS, 3, 3, spread)?;
     }
     Ok(())
 }
 
-/// Column 0 gives column 1 but among the rows of a group. Column 0 is in the target or in the table above.
-fn planted(trial: &mut Trial, rows: usize, spread: Spread) -> Outcome {
+/// The left columns together give the right one but among the rows of a group. They are in the target and in the tables
+/// above it, root first, and the right column stands behind them.
+fn planted(trial: &mut Trial, rows: usize, columns: usize, tables: usize, spread: Spread) -> Outcome {
     let groups = groups(&mut trial.random, rows, spread);
-    let (lefts, rights) = codes(&mut trial.random, &groups);
-    let above = trial.random.once_in(2);
-    let file = if above { in_two_tables(&lefts, &rights) } else { in_one_table(&lefts, &rights) };
+    let (lefts, rights) = codes(&mut trial.random, &groups, columns);
+    let file = in_line(tables, columns, &lefts, &rights);
     trial.file = file.clone();
     let placed = Placed::new(&file, &mut trial.random);
     let catalogue =
         check(trial, &placed)?.map_err(|refusal| format!("the generator made a refused file: {refusal:?}"))?;
-    let target = above as u32;
-    for (left, right) in [(1, 1), (1, ROW), (2, ROW), (0, 1)] {
+    let (target, left, right) = (tables as u32 - 1, (1 << columns) - 1, columns as u32);
+    for (left, right) in [(left, right), (left, ROW), (1, right), (0, right), (1 << right, ROW), (2 * left + 1, ROW)] {
         questions::one(trial, &placed, &catalogue, target, left, right)?;
     }
-    let kinds = kinds(&catalogue, target as usize, &groups);
+    let breaking = |x: usize, y: usize| simple::breaks(&catalogue, target as usize, left, right, x, y);
+    let kinds = kinds(&groups, breaking);
     expect(
         kinds.contains(&spread.kind()),
         || "the generator".into(),
@@ -93,18 +96,21 @@ fn groups(random: &mut Random, rows: usize, spread: Spread) -> Vec<Option<usize>
     groups
 }
 
-/// The codes of the left and of the right: rows outside the groups have a left of their own, and the last row of a
-/// group has another right than those before it, which may differ too.
-fn codes(random: &mut Random, groups: &[Option<usize>]) -> (Vec<u32>, Vec<u32>) {
+/// The codes of the left columns and of the right one, for each row. The rows of a group agree on all left columns, no
+/// other two rows do; the last row of a group has another right than those before it, which may differ too.
+fn codes(random: &mut Random, groups: &[Option<usize>], columns: usize) -> (Vec<Vec<u32>>, Vec<u32>) {
     let mut lefts = Vec::new();
     let mut rights = Vec::new();
     for (row, group) in groups.iter().enumerate() {
         let last = group.is_some() && !groups[row + 1..].contains(group);
-        lefts.push(match group {
+        let own = random.below(columns);
+        let mut code = |column| match group {
             Some(group) => *group as u32,
+            None if column != own => random.below(4) as u32,
             None if random.once_in(8) => MISSING,
             None => 1_000 + row as u32,
-        });
+        };
+        lefts.push((0..columns).map(&mut code).collect());
         rights.push(match group {
             Some(_) if last => random.pick(&[9, MISSING]),
             Some(_) => random.pick(&[5, 5, 5, 6]),
@@ -114,26 +120,29 @@ fn codes(random: &mut Random, groups: &[Option<usize>]) -> (Vec<u32>, Vec<u32>) 
     (lefts, rights)
 }
 
-fn in_one_table(lefts: &[u32], rights: &[u32]) -> Vec<u8> {
-    let rows = lefts.iter().zip(rights).map(|(left, right)| (NO_PARENT, vec![*left, *right])).collect();
-    Draft { tables: vec![DraftTable { columns: 2, parent: NO_PARENT, rows }] }.file()
+/// So many tables in a line, row k under row k, with the left columns spread over them and the right one in the last.
+fn in_line(tables: usize, columns: usize, lefts: &[Vec<u32>], rights: &[u32]) -> Vec<u8> {
+    let mut draft = Draft::default();
+    for table in 0..tables {
+        let is_own = |column: &usize| column * tables / columns == table;
+        let last = table + 1 == tables;
+        let row = |(k, (left, right)): (usize, (&Vec<u32>, &u32))| {
+            let own = (0..columns).filter(is_own).map(|column| left[column]);
+            (if table == 0 { NO_PARENT } else { k }, own.chain(last.then_some(*right)).collect())
+        };
+        let rows = lefts.iter().zip(rights).enumerate().map(row).collect();
+        let parent = if table == 0 { NO_PARENT } else { table - 1 };
+        draft.tables.push(DraftTable { columns: (0..columns).filter(is_own).count() + last as usize, parent, rows });
+    }
+    draft.file()
 }
 
-/// The left is in the table above, in another row for each row: rows agree on it by its cells.
-fn in_two_tables(lefts: &[u32], rights: &[u32]) -> Vec<u8> {
-    let upper = lefts.iter().map(|left| (NO_PARENT, vec![*left])).collect();
-    let lower = rights.iter().enumerate().map(|(row, right)| (row, vec![*right])).collect();
-    let upper = DraftTable { columns: 1, parent: NO_PARENT, rows: upper };
-    Draft { tables: vec![upper, DraftTable { columns: 1, parent: 0, rows: lower }] }.file()
-}
-
-/// What the first pair of column 0 and column 1 is like.
-fn kinds(catalogue: &Catalogue, target: usize, groups: &[Option<usize>]) -> Vec<&'static str> {
+/// What the first of the pairs that the left columns and the right one have is like.
+fn kinds(groups: &[Option<usize>], breaking: impl Fn(usize, usize) -> bool) -> Vec<&'static str> {
     let rows = groups.len();
     let below = |second: usize| (0..second).map(move |first| (first, second));
-    let breaking = |(first, second): &(usize, usize)| simple::breaks(catalogue, target, 1, 1, *first, *second);
-    let mut pairs: Vec<(usize, usize)> =
-        (0..rows).filter(|row| groups[*row].is_some()).flat_map(below).filter(breaking).collect();
+    let grouped = (0..rows).filter(|row| groups[*row].is_some());
+    let mut pairs: Vec<(usize, usize)> = grouped.flat_map(below).filter(|(x, y)| breaking(*x, *y)).collect();
     pairs.sort();
     let (first, second) = pairs[0];
     let mut kinds = Vec::new();
