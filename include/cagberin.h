@@ -2,8 +2,8 @@
  * cagberin.h - what determines what in a media catalogue.
  *
  * A media catalogue is a file of tables in a tree. The calls check one, say whether a dependency holds in it, give the
- * first pair of rows that breaks one, list all minimal dependencies and keys in steps, and pack and read such lists.
- * examples/c/example.c makes each call.
+ * first pair of rows that breaks one, list all minimal dependencies and keys in steps, pack and read such lists, and
+ * check by evidence that a list is the full one. examples/c/example.c makes each call.
  *
  * Link with libhost.a, an archive for x86-64 Linux. Of the outside it needs memcpy and memset, nothing else.
  *
@@ -23,9 +23,10 @@
  * Threads. Several threads may share one catalogue or packed list, since calls only read it, as long as nobody alters
  * it meanwhile. What a call may write must be each thread's own.
  *
- * Stack. cagberin_list needs up to 300 KB (307,200 bytes) of stack, cagberin_ask and cagberin_pair up to 240 KB
- * (245,760 bytes), each other call up to 16 KB (16,384 bytes). Measured on a stack filled with a pattern beforehand, on
- * catalogues of 4 to 4,096 rows: 280,672 bytes for a listing, 217,399 for a pair, 213,271 for a question.
+ * Stack. cagberin_verify needs up to 400 KB (409,600 bytes) of stack, cagberin_list up to 300 KB (307,200 bytes),
+ * cagberin_ask and cagberin_pair up to 240 KB (245,760 bytes), each other call up to 16 KB (16,384 bytes). Measured on
+ * a stack filled with a pattern beforehand, on catalogues of 4 to 4,096 rows: 296,760 bytes for a check by evidence,
+ * 280,672 for a listing, 217,399 for a pair, 213,271 for a question.
  */
 #ifndef CAGBERIN_H
 #define CAGBERIN_H
@@ -57,6 +58,7 @@ extern "C" {
 #define CAGBERIN_WORK_WORDS 16384     /* work words that a question, a pair or a listing needs at least */
 #define CAGBERIN_MANY_WORDS 65536     /* a work word for each left side of 16 visible columns: see cagberin_list */
 #define CAGBERIN_SET_ENTRIES 17       /* entries of one set, at most: 16 columns and the row */
+#define CAGBERIN_RECORD_BYTES 8       /* bytes of an evidence record */
 
 /* ---- Codes ---- */
 
@@ -72,7 +74,8 @@ extern "C" {
  *
  * Where there are several grounds, the first in this order is returned: -1 and -2; then table by table its offset and
  * 6 bytes (-3), -4, -5, -6, its rows' extent (-3), each row (-7); after the last table, left bytes (-3); then -8 to
- * -16 as they stand here. A list is checked for -14 first, then entry by entry for -15.
+ * -19 as they stand here. A list is checked for -14 first, then entry by entry for -15; a list with evidence for -17
+ * over all records, then for -18 over all entries, then for -19.
  */
 enum cagberin_refusal {
     CAGBERIN_TORN = -1,            /* torn: file under 16 bytes */
@@ -96,7 +99,12 @@ enum cagberin_refusal {
     CAGBERIN_NO_LIST = -14,        /* no list: under 8 bytes, distance isn't 4k + 8, or distance above the length */
     CAGBERIN_BAD_ENTRY = -15,      /* bad entry: target over 15, right neither below 16 nor 255, right in left, or
                                       not later in listing order than the one before */
-    CAGBERIN_SHORT_SHEET = -16     /* short sheet: output under 4k + 8 bytes */
+    CAGBERIN_SHORT_SHEET = -16,    /* short sheet: output under 4k + 8 bytes */
+    CAGBERIN_FALSE_RECORD = -17,   /* an evidence record is not true, or the last one is broken */
+    CAGBERIN_UNSOUND_ENTRY = -18,  /* an entry has an unknown table, column or right (as in -8 to -10), fails, or
+                                      contains another left that is listed for its target and right */
+    CAGBERIN_UNCOVERED_SET = -19   /* for some target and right of it, a set without that right neither contains a
+                                      left listed for the two nor lies inside the set of a record for the two */
 };
 
 /* ---- Dependencies and entries ---- */
@@ -221,6 +229,27 @@ int64_t cagberin_open(const uint8_t *file, size_t len, size_t *front);
  * small ones.
  */
 int64_t cagberin_read(const uint8_t *file, size_t len, size_t from, struct cagberin_entry *run, size_t records);
+
+/*
+ * Checks by evidence that the packed list that ends a file is the full listing of a catalogue, whoever made it.
+ *
+ * Evidence is records of CAGBERIN_RECORD_BYTES bytes, in any order, repeats allowed: target (1 byte), right (1), a
+ * column set (2), two rows of the target (2 each), little-endian. A record is true if -8 to -10 allow its target, set
+ * and right, both rows exist, its right isn't in its set (CAGBERIN_ROW is in no set), and its two rows, in either
+ * order, agree on the set and disagree on the right. The list is accepted if all records are true, each entry holds and
+ * contains no other left that is listed for its target and right, and, for every target and every right of it, each set
+ * without that right contains a left listed for the two or lies inside the set of a record for the two.
+ *
+ * Returns the number of entries of the list. Its entries are then the full listing of the catalogue: every minimal
+ * dependency and key, once, in listing order. And the full listing is accepted if all records are true and, for every
+ * target and every right of it, each set without that right that doesn't give it lies inside the set of a record for
+ * the two: a record for each largest such set is enough.
+ * Refusals: -1 to -7 for the catalogue, then -14, -15 for the list, then -17, -18, -19.
+ *
+ * Nothing is written. The three may overlap; bytes in front of the list, such as the catalogue, aren't looked at.
+ */
+int64_t cagberin_verify(const uint8_t *cat, size_t cat_len, const uint8_t *list, size_t list_len,
+                        const uint8_t *evidence, size_t evidence_len);
 
 #ifdef __cplusplus
 }

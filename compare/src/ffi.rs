@@ -45,6 +45,14 @@ mod raw {
         pub fn cagberin_pack(entries: *const Entry, count: usize, out: *mut u8, out_len: usize) -> i64;
         pub fn cagberin_open(file: *const u8, len: usize, front: *mut usize) -> i64;
         pub fn cagberin_read(file: *const u8, len: usize, from: usize, run: *mut Entry, records: usize) -> i64;
+        pub fn cagberin_verify(
+            cat: *const u8,
+            cat_len: usize,
+            list: *const u8,
+            list_len: usize,
+            evidence: *const u8,
+            evidence_len: usize,
+        ) -> i64;
     }
 }
 
@@ -104,4 +112,12 @@ pub fn open(file: &[u8], front: &mut usize) -> i64 {
 /// How many entries were read from an index on into the run, or a refusal.
 pub fn read(file: &[u8], from: usize, run: &mut [Entry]) -> i64 {
     unsafe { raw::cagberin_read(file.as_ptr(), file.len(), from, run.as_mut_ptr(), run.len()) }
+}
+
+/// The number of entries of an accepted list, or a refusal.
+pub fn verify(cat: &[u8], list: &[u8], evidence: &[u8]) -> i64 {
+    unsafe {
+        let (records, len) = (evidence.as_ptr(), evidence.len());
+        raw::cagberin_verify(cat.as_ptr(), cat.len(), list.as_ptr(), list.len(), records, len)
+    }
 }

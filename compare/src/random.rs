@@ -99,6 +99,16 @@ impl Draft {
     }
 }
 
+/// The album catalogue of document 01.
+pub fn album() -> Draft {
+    let root = |code| (NO_PARENT, vec![code]);
+    let sheet = |parent, tray, profile| (parent, vec![tray, profile]);
+    let shops = DraftTable { columns: 1, parent: NO_PARENT, rows: vec![root(5), root(5), root(MISSING)] };
+    let rows = vec![sheet(0, 1, 7), sheet(1, 3, 7), sheet(2, 1, 8), sheet(2, 2, 8)];
+    let sheets = DraftTable { columns: 2, parent: 0, rows };
+    Draft { tables: vec![shops, sheets] }
+}
+
 // ---- Shapes ----
 
 /// Which lower-numbered table is the parent.

@@ -1,5 +1,5 @@
-//! Document 01 in plain loops, with the requests of document 02 that have landed (a): check, question, first breaking
-//! pair, full listing, listing call, packed list, the text that the listing program prints.
+//! Document 01 in plain loops, with the requests of document 02 that have landed (a; b is in `evidence`): check,
+//! question, first breaking pair, full listing, listing call, packed list, the text that the listing program prints.
 //!
 //! Nothing here is fast. Each function renders one sentence or one table row of the documents, in their order.
 
@@ -18,7 +18,7 @@ pub const NO_PARENT: usize = 65_535;
 /// The right side that stands for the row itself.
 pub const ROW: u32 = 255;
 
-// ---- Refusals ("Feeder desk codes") ----
+// ---- Refusals ("Feeder desk codes"; 17 to 19 by document 02 b) ----
 
 #[derive(Clone, Copy, PartialEq, Eq, Debug)]
 pub enum Refusal {
@@ -38,6 +38,9 @@ pub enum Refusal {
     NoList = 14,
     BadEntry = 15,
     ShortSheet = 16,
+    FalseRecord = 17,
+    UnsoundEntry = 18,
+    UncoveredSet = 19,
 }
 
 use Refusal::*;
@@ -74,7 +77,7 @@ pub struct Catalogue {
     pub tables: Vec<Table>,
 }
 
-fn u16_at(file: &[u8], at: usize) -> usize {
+pub(crate) fn u16_at(file: &[u8], at: usize) -> usize {
     file[at] as usize + 256 * file[at + 1] as usize
 }
 
@@ -187,18 +190,23 @@ pub fn agree_on_column(catalogue: &Catalogue, target: usize, x: usize, y: usize,
     row_x == row_y || (cell_x != MISSING && cell_y != MISSING && cell_x == cell_y)
 }
 
-fn member(set: u32, k: usize) -> bool {
+pub(crate) fn member(set: u32, k: usize) -> bool {
     set & (1 << k) != 0
 }
 
+/// Whether the right is in the set; the row is in none.
+pub fn right_in(set: u32, right: u32) -> bool {
+    right != ROW && member(set, right as usize)
+}
+
 /// "They agree on a set if they agree on each member."
-fn agree_on_set(catalogue: &Catalogue, target: usize, x: usize, y: usize, set: u32) -> bool {
+pub fn agree_on_set(catalogue: &Catalogue, target: usize, x: usize, y: usize, set: u32) -> bool {
     let n = catalogue.tables[target].visible.len();
     (0..n).all(|k| !member(set, k) || agree_on_column(catalogue, target, x, y, k))
 }
 
 /// "Two rows agree on the row only if they are one row."
-fn agree_on_right(catalogue: &Catalogue, target: usize, x: usize, y: usize, right: u32) -> bool {
+pub fn agree_on_right(catalogue: &Catalogue, target: usize, x: usize, y: usize, right: u32) -> bool {
     if right == ROW {
         x == y
     } else {
@@ -238,8 +246,7 @@ pub fn holds(catalogue: &Catalogue, target: usize, left: u32, right: u32) -> boo
 /// and no left with a column less holds."
 pub fn listed(catalogue: &Catalogue, target: usize, left: u32, right: u32) -> bool {
     let n = catalogue.tables[target].visible.len();
-    let outside = right == ROW || !member(left, right as usize);
-    outside
+    !right_in(left, right)
         && holds(catalogue, target, left, right)
         && (0..n).all(|k| !member(left, k) || !holds(catalogue, target, left & !(1 << k), right))
 }
@@ -253,14 +260,8 @@ pub fn rights(catalogue: &Catalogue, target: usize) -> Vec<u32> {
     rights
 }
 
-/// Refusals 8 to 11, for the question and the pair.
-pub fn refused_question(
-    catalogue: &Catalogue,
-    target: u32,
-    left: u32,
-    right: u32,
-    words: usize,
-) -> Result<(), Refusal> {
+/// Refusals 8 to 10.
+pub fn refused_sides(catalogue: &Catalogue, target: u32, left: u32, right: u32) -> Result<(), Refusal> {
     if target as usize >= catalogue.tables.len() {
         return Err(UnknownTable);
     }
@@ -271,6 +272,18 @@ pub fn refused_question(
     if !rights(catalogue, target as usize).contains(&right) {
         return Err(UnknownRight);
     }
+    Ok(())
+}
+
+/// Refusals 8 to 11, for the question and the pair.
+pub fn refused_question(
+    catalogue: &Catalogue,
+    target: u32,
+    left: u32,
+    right: u32,
+    words: usize,
+) -> Result<(), Refusal> {
+    refused_sides(catalogue, target, left, right)?;
     if words < WORK_WORDS {
         return Err(SmallBench);
     }

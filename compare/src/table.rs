@@ -3,8 +3,10 @@
 //! For two rows, their agree set is the set of visible columns on which they agree. `scan` stores at each agree
 //! set that occurs the rights that it breaks (bit k column k, bit n the row); `close` ORs the words of all
 //! supersets into each word. Then bit a of word X is 1 exactly if X does not give a, and the minimal rights of
-//! X are read off directly.
+//! X are read off directly. So are the largest sets that do not give a right: each is the agree set of two rows, which
+//! are the evidence for it.
 
+use crate::evidence::Record;
 use crate::simple::{Catalogue, Entry, MISSING, ROW};
 
 /// The full listing of a catalogue.
@@ -21,6 +23,48 @@ pub fn listing(catalogue: &Catalogue) -> Vec<Entry> {
     entries
 }
 
+/// Evidence for the full listing: a record for each target and right and each largest set without the right that fails,
+/// with two rows whose agree set it is.
+pub fn evidence(catalogue: &Catalogue) -> Vec<Record> {
+    let codes: Vec<Vec<Vec<u32>>> = (0..catalogue.tables.len()).map(|table| columns_of(catalogue, table)).collect();
+    let mut records = Vec::new();
+    for target in 0..catalogue.tables.len() {
+        let n = catalogue.tables[target].visible.len();
+        let mut broken = vec![0u32; 1 << n];
+        let mut rows = vec![[0; 2]; 1 << n];
+        let all = 2 * broken.len() as u32 - 1;
+        each_line(catalogue, &codes, target, |x, line| {
+            for (between, agree) in line.iter().enumerate() {
+                broken[*agree as usize] = all - agree;
+                rows[*agree as usize] = [x as u16, (x + 1 + between) as u16];
+            }
+        });
+        close(n, &mut broken);
+        read_off_largest(catalogue, target, &broken, &rows, &mut records);
+    }
+    records
+}
+
+/// The rights that a set breaks and no set with a column more does.
+fn read_off_largest(
+    catalogue: &Catalogue,
+    target: usize,
+    broken: &[u32],
+    rows: &[[u16; 2]],
+    records: &mut Vec<Record>,
+) {
+    let table = &catalogue.tables[target];
+    let n = table.visible.len();
+    for set in 0..1usize << n {
+        let more = (0..n).filter(|k| set & 1 << k == 0);
+        let largest = more.fold(broken[set], |largest, k| largest & !broken[set | 1 << k]);
+        for k in (n - table.own..=n).filter(|k| largest & 1 << k != 0) {
+            let right = if k == n { ROW as u8 } else { k as u8 };
+            records.push(Record { target: target as u8, right, set: set as u16, rows: rows[set] });
+        }
+    }
+}
+
 /// The codes of a table's own columns, column by column.
 fn columns_of(catalogue: &Catalogue, table: usize) -> Vec<Vec<u32>> {
     let table = &catalogue.tables[table];
@@ -29,14 +73,20 @@ fn columns_of(catalogue: &Catalogue, table: usize) -> Vec<Vec<u32>> {
 
 /// Stores the broken rights at the agree set of each pair of rows.
 fn scan(catalogue: &Catalogue, codes: &[Vec<Vec<u32>>], target: usize, broken: &mut [u32]) {
-    let rows = catalogue.tables[target].rows.len();
     let all = 2 * broken.len() as u32 - 1;
-    let mut lines = vec![Vec::new(); catalogue.tables.len()];
-    for x in 0..rows {
-        fill_line(catalogue, codes, target, x, x + 1, &mut lines);
-        for agree in &lines[target] {
+    each_line(catalogue, codes, target, |_, line| {
+        for agree in line {
             broken[*agree as usize] = all - agree;
         }
+    });
+}
+
+/// Hands on each row of the target with the agree sets of it and each row behind it.
+fn each_line(catalogue: &Catalogue, codes: &[Vec<Vec<u32>>], target: usize, mut take: impl FnMut(usize, &[u32])) {
+    let mut lines = vec![Vec::new(); catalogue.tables.len()];
+    for x in 0..catalogue.tables[target].rows.len() {
+        fill_line(catalogue, codes, target, x, x + 1, &mut lines);
+        take(x, &lines[target]);
     }
 }
 

@@ -3,11 +3,12 @@
 
 use compare::random::{Draft, DraftTable, Random};
 use compare::simple::{self, Entry, COLUMNS, NO_PARENT, ROW, TABLES, WORK_WORDS};
-use compare::{ffi, table};
+use compare::{evidence, ffi, stack, table};
 use std::thread::{scope, Builder};
 
-/// The stack of `cagberin_list`, of a question or pair, and of each other call, as the header states it. A thread's own
-/// needs come out of the same.
+/// The stack of `cagberin_verify`, of `cagberin_list`, of a question or pair, and of each other call, as the header
+/// states it. A thread's own needs come out of the same.
+const VERIFY_STACK: usize = 409_600;
 const LIST_STACK: usize = 307_200;
 const QUESTION_STACK: usize = 245_760;
 const OTHER_STACK: usize = 16_384;
@@ -62,6 +63,40 @@ fn listings_of_a_shared_catalogue_in_threads_with_the_stated_stack() {
             }
         });
     }
+}
+
+/// The files are shared too: two threads check the same list at once, a third one lacks a record.
+#[test]
+fn lists_checked_by_evidence_in_threads_with_the_stated_stack() {
+    for file in [line(), flat()] {
+        let catalogue = simple::check(&file).unwrap();
+        let entries = table::listing(&catalogue);
+        let mut list = vec![0; 4 * entries.len() + 8];
+        simple::pack(&entries, &mut list).unwrap();
+        let records = evidence::written(&table::evidence(&catalogue));
+        let (accepted, uncovered) = (entries.len() as i64, -(simple::Refusal::UncoveredSet as i64));
+        let less = records.len() - evidence::RECORD_BYTES;
+        scope(|threads| {
+            for (len, reply) in [(records.len(), accepted), (records.len(), accepted), (less, uncovered)] {
+                let (file, list, records) = (&file, &list, &records[..len]);
+                let thread = Builder::new().stack_size(VERIFY_STACK);
+                thread.spawn_scoped(threads, move || assert_eq!(ffi::verify(file, list, records), reply)).unwrap();
+            }
+        });
+    }
+}
+
+/// The benchmark's measure of stack, on a call that is known to use some.
+#[test]
+fn stack_is_measured() {
+    const BYTES: usize = 100_000;
+    let fill = || {
+        let mut bytes = [1u8; BYTES];
+        std::hint::black_box(&mut bytes);
+    };
+    let used = stack::used(fill);
+    assert!((BYTES..BYTES + 1_000).contains(&used), "{used}");
+    assert!(stack::used(|| ()) < 4_000);
 }
 
 #[test]

@@ -1,5 +1,7 @@
-//! The benchmark's peers list exactly what the simple implementation lists.
+//! The benchmark's peers list exactly what the simple implementation lists, and the table's evidence has a true record
+//! for the same targets, rights and sets.
 
+use compare::evidence::{self, Record};
 use compare::random::{self, Random};
 use compare::{simple, table, tane};
 
@@ -14,5 +16,14 @@ fn the_peers_list_what_the_simple_implementation_lists() {
         let listing = simple::full_listing(&catalogue).concat();
         assert_eq!(table::listing(&catalogue), listing, "table, seed {seed}");
         assert_eq!(tane::listing(&catalogue), listing, "TANE, seed {seed}");
+        let (made, plain) = (table::evidence(&catalogue), evidence::records(&catalogue));
+        assert!(made.iter().all(|record| evidence::fault(&catalogue, record).is_none()), "evidence, seed {seed}");
+        assert_eq!(sets(made), sets(plain), "evidence, seed {seed}");
     }
+}
+
+/// What some records are for, in order.
+fn sets(mut records: Vec<Record>) -> Vec<(u8, u8, u16)> {
+    records.sort_by_key(|record| (record.target, record.right, record.set));
+    records.iter().map(|record| (record.target, record.right, record.set)).collect()
 }

@@ -1,5 +1,6 @@
 /*
- * Checks a catalogue, asks it four questions, lists it in steps, packs the list behind it and reads the list back.
+ * Checks a catalogue, asks it four questions, lists it in steps, packs the list behind it, reads the list back and
+ * checks it by evidence.
  *
  *     gcc -std=c99 -Wall -Wextra -Werror -I include examples/c/example.c target/staticlib/libhost.a -o example
  *     ./example examples/album.cat
@@ -18,6 +19,16 @@
 static uint8_t file[FILE_BYTES + 4 * LIST_ENTRIES + 8];
 static uint32_t work[CAGBERIN_WORK_WORDS];
 static struct cagberin_entry list[LIST_ENTRIES];
+
+/* The album's evidence. Each record: target, right, column set (2 bytes), two rows (2 bytes each). */
+static const uint8_t evidence[] = {
+    0, 0,            0, 0,  0, 0,  2, 0,
+    0, CAGBERIN_ROW, 1, 0,  0, 0,  1, 0,
+    1, 1,            5, 0,  0, 0,  1, 0,
+    1, 2,            2, 0,  0, 0,  2, 0,
+    1, CAGBERIN_ROW, 5, 0,  0, 0,  1, 0,
+    1, CAGBERIN_ROW, 2, 0,  0, 0,  2, 0
+};
 
 /* Prints the document's number of a refusal and gives the program's status. */
 static int refused(const char *call, int64_t reply)
@@ -102,6 +113,18 @@ static int64_t read_in_runs(size_t len)
     }
 }
 
+/* Checks the list that ends the file against the catalogue in front, by so many bytes of evidence. */
+static int64_t verify(size_t front, size_t len, size_t evidence_len)
+{
+    int64_t reply = cagberin_verify(file, front, file, len, evidence, evidence_len);
+    unsigned records = (unsigned)(evidence_len / CAGBERIN_RECORD_BYTES);
+    if (reply >= 0)
+        printf("by %u records the list is the full listing, %d entries\n", records, (int)reply);
+    else if (reply == CAGBERIN_UNCOVERED_SET)
+        printf("by %u records a set is uncovered\n", records);
+    return reply;
+}
+
 int main(int argc, char **argv)
 {
     uint32_t tables, sets;
@@ -145,5 +168,10 @@ int main(int argc, char **argv)
     if (reply != CAGBERIN_NO_LIST)
         return 1;
     printf("without its last byte it is no list\n");
-    return 0;
+
+    reply = verify(front, len, sizeof evidence);
+    if (reply < 0)
+        return refused("verify", reply);
+    reply = verify(front, len, sizeof evidence - CAGBERIN_RECORD_BYTES);
+    return reply == CAGBERIN_UNCOVERED_SET ? 0 : 1;
 }

@@ -22,10 +22,15 @@
 //! Questions are asked of the last table: with a small left side and with one of eight columns (where it has eight,
 //! the other seven for a column), of a column and of the row. A call of budget 1 is timed beside one of budget 2, at
 //! three places of the last table.
+//!
+//! The check by evidence is of the library's own full listing, packed, with a record for each largest set that fails.
+//! Its time is shown beside that of making the listing with 65,536 words, with their ratio and the stack that it uses.
+//! `fork-15` and `album` have nothing else here. `fork-15` has many wide targets: under a root of 15 columns, made as a
+//! flat shape is, 15 tables of one column each, all of 480 rows. Of `album` the time is a mean over many checks.
 
-use compare::random::{Draft, DraftTable, Random};
+use compare::random::{self, Draft, DraftTable, Random};
 use compare::simple::{self, Catalogue, Entry, MISSING, NO_PARENT, ROW, WORK_WORDS};
-use compare::{ffi, table, tane};
+use compare::{evidence, ffi, stack, table, tane};
 use std::hint::black_box;
 use std::process::{exit, Command, Stdio};
 use std::time::{Duration, Instant};
@@ -33,6 +38,11 @@ use std::time::{Duration, Instant};
 const MANY_WORDS: usize = 65_536;
 /// Records lent to a listing: more than any of these shapes has entries.
 const RECORDS: usize = 1 << 20;
+/// A check by evidence takes at most so many times as long as the listing, and at most so much stack.
+const VERIFY_TIMES: f64 = 3.0;
+const VERIFY_STACK: usize = 409_600;
+/// Checks of the album's list for a mean.
+const ALBUM_CHECKS: u32 = 20_000;
 /// A peer's listing that would take longer is skipped.
 const SKIP: f64 = 30.0;
 /// A library listing that takes longer is given up.
@@ -69,20 +79,35 @@ fn mixed(codes: &[u32], bound: usize) -> u32 {
     (sum.wrapping_mul(2_654_435_761) >> 8) % bound as u32
 }
 
-/// One table. The last column is given by columns 0 and 1, the one before it by columns 2, 3 and 4.
-fn flat(name: &'static str, rows: usize, columns: usize, ranges: &Ranges) -> Shape {
-    let mut random = Random::new(rows as u64);
+/// A root. The last column is given by columns 0 and 1, the one before it by columns 2, 3 and 4.
+fn root(random: &mut Random, rows: usize, columns: usize, ranges: &Ranges) -> DraftTable {
     let mut row = || {
-        let mut codes: Vec<u32> = (0..columns).map(|column| code(&mut random, ranges, column)).collect();
+        let mut codes: Vec<u32> = (0..columns).map(|column| code(random, ranges, column)).collect();
         codes[columns - 2] = mixed(&codes[2..5], ranges[14]);
         codes[columns - 1] = mixed(&codes[0..2], ranges[15]);
         (NO_PARENT, codes)
     };
     let rows = (0..rows).map(|_| row()).collect();
-    let draft = Draft { tables: vec![DraftTable { columns, parent: NO_PARENT, rows }] };
+    DraftTable { columns, parent: NO_PARENT, rows }
+}
+
+/// One table.
+fn flat(name: &'static str, rows: usize, columns: usize, ranges: &Ranges) -> Shape {
+    let draft = Draft { tables: vec![root(&mut Random::new(rows as u64), rows, columns, ranges)] };
     let last = columns as u32 - 1;
     let key = if columns == 16 { 0b0011_1111_1100_0000 } else { 0b1111_1111 };
     Shape { name, file: draft.file(), holds: (0b11, last), wide: (0xFF & !(1 << last), last), key }
+}
+
+/// A root of 15 columns and 15 tables of one column under it, with a row under each of its rows.
+fn fork() -> Vec<u8> {
+    let mut random = Random::new(15);
+    let mut tables = vec![root(&mut random, FORK_ROWS, 15, &MODERATE)];
+    for _ in 0..15 {
+        let rows = (0..FORK_ROWS).map(|k| (k, vec![code(&mut random, &MODERATE, 15)])).collect();
+        tables.push(DraftTable { columns: 1, parent: 0, rows });
+    }
+    Draft { tables }.file()
 }
 
 /// One table in which only the last two rows break a dependency: of column 0, which tells all other rows apart, and
@@ -167,7 +192,10 @@ fn root_code(draft: &Draft, table: usize, row: usize) -> u32 {
     }
 }
 
-const SHAPES: [&str; 11] = [
+const FORK: &str = "fork-15";
+const FORK_ROWS: usize = 480;
+const ALBUM: &str = "album";
+const SHAPES: [&str; 13] = [
     "flat-4096x16",
     "flat-4096x16-few",
     "flat-4096x16-many",
@@ -179,6 +207,8 @@ const SHAPES: [&str; 11] = [
     "flat-60x8",
     "one-chain",
     "one-chain-nested",
+    FORK,
+    ALBUM,
 ];
 
 fn shape(name: &str) -> Option<Shape> {
@@ -439,6 +469,69 @@ fn listings(shape: &Shape, catalogue: &Catalogue) {
     }
 }
 
+// ---- The check by evidence ----
+
+/// A catalogue's full listing as the library makes it, packed, with evidence.
+struct Supply {
+    entries: usize,
+    records: usize,
+    list: Vec<u8>,
+    evidence: Vec<u8>,
+    /// The time of making the listing with 65,536 words.
+    listing: f64,
+}
+
+fn supply(file: &[u8]) -> Supply {
+    let mut run = vec![Entry { target: 9, right: 9, left: 9 }; RECORDS];
+    let mut entries = 0;
+    let listing = with_words(MANY_WORDS, |work| entries = listed(file, u32::MAX, &mut run, work));
+    let mut list = vec![0; 4 * entries + 8];
+    assert_eq!(ffi::pack(&run[..entries], &mut list), list.len() as i64);
+    let records = table::evidence(&simple::check(file).unwrap());
+    Supply { entries, records: records.len(), list, evidence: evidence::written(&records), listing }
+}
+
+fn verified(file: &[u8], supply: &Supply) {
+    assert_eq!(ffi::verify(file, &supply.list, &supply.evidence), supply.entries as i64);
+}
+
+/// Prints the time of a check beside that of the listing, and its stack.
+fn verification_line(file: &[u8], supply: &Supply, time: f64) {
+    let times = time / supply.listing;
+    let stack = stack::used(|| verified(file, supply));
+    let over = |over: bool| if over { ", over the bar" } else { "" };
+    println!(
+        "  verify, {} entries, {} records: {}; listing, 65,536 words: {}; {times:.2} times (at most {VERIFY_TIMES}{}); \
+         stack {stack} bytes (at most {VERIFY_STACK}{})",
+        supply.entries,
+        supply.records,
+        shown(time),
+        shown(supply.listing),
+        over(times > VERIFY_TIMES),
+        over(stack > VERIFY_STACK),
+    );
+}
+
+fn verification(file: &[u8]) {
+    let supply = supply(file);
+    let time = least(|| seconds(|| verified(file, &supply)));
+    verification_line(file, &supply, time);
+}
+
+fn many_wide_targets() {
+    let file = fork();
+    println!("{FORK}: {} bytes, {} sets", file.len(), simple::check(&file).unwrap().sets());
+    verification(&file);
+}
+
+fn album() {
+    let file = random::album().file();
+    let supply = supply(&file);
+    let time = seconds(|| (0..ALBUM_CHECKS).for_each(|_| verified(&file, &supply)));
+    println!("{ALBUM}: {} bytes, a mean over {ALBUM_CHECKS} checks", file.len());
+    verification_line(&file, &supply, time / ALBUM_CHECKS as f64);
+}
+
 fn main() {
     let arguments: Vec<String> = std::env::args().skip(1).collect();
     if arguments.first().is_some_and(|first| first == "--listing") {
@@ -450,6 +543,14 @@ fn main() {
         "processor time, least of several runs; buffers written beforehand, work words hold noise; (x peer / library)"
     );
     for name in names {
+        if name == FORK {
+            many_wide_targets();
+            continue;
+        }
+        if name == ALBUM {
+            album();
+            continue;
+        }
         let Some(shape) = shape(name) else {
             println!("no shape {name}; there are {}", SHAPES.join(", "));
             exit(2)
@@ -466,5 +567,6 @@ fn main() {
             single_calls(&shape, &catalogue);
         }
         listings(&shape, &catalogue);
+        verification(&shape.file);
     }
 }

@@ -31,7 +31,8 @@ test-minimal v n own a x seeds plane t s b h l asked fill f =
     let m = s .members in
     let full : PlaneFrom (v .members) a seeds plane = subst (λ (k : ℕ). PlaneFrom k a seeds plane) (sym m) fill in
     let inside : x < 2 ^ v .members = subst (λ (k : ℕ). x < 2 ^ k) (sym m) l in
-    let is = seeds-filled-plane v a seeds plane (s .equivalence) (omega arith) (omega arith) (s .seeds) full in
+    let is = seeds-filled-plane v (v .members) a seeds plane (s .equivalence) (omega arith) (omega arith) (omega arith)
+    (s .seeds) full in
     narrow-is v plane x a t (omega arith) is inside (omega arith) f
     ∙ ap (λ (b : Bool). b && minimal v x (rightAt (v .members) a)) (sym (eq-eqb (bit own a) 1 asked))
 

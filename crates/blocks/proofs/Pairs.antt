@@ -216,6 +216,3 @@ adding-fits n a j at count x r plane before after h is l p b d =
 -- how many pairs there are, and where they begin, in numbers
 pub room-small : (n length count : ℕ) → n ≤ columnBound → Room n length count → count ≤ 65536
 room-small n length count h r = omega (arith, r .few, pow-mono {i = n} {j = 16} h)
-
-pub seedWords-small : (n : ℕ) → n ≤ columnBound → seedWords n ≤ 2048
-seedWords-small n h = pow-mono {i = n - 5} {j = 11} (omega arith)

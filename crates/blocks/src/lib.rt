@@ -14,9 +14,7 @@ ghost use Rattle.blocks.specs.Cache.{Answered, Block, AtCursor, RightsFr
 use bits::power;
 use columns::ColumnSet;
 use columns::SetOrNone;
-
-// How many words a plane takes at the bound on columns.
-const PLANE: usize = 1 << (columns::COLUMN_BOUND - 5);
+use planes::PLANE;
 
 // How many pairs a block has: as many as fit, and no more than there are left sides.
 fn room(length: usize, n: u32) -> u32

@@ -1,7 +1,7 @@
 // Not for callers: 15 of entries. May an entry stand in a list, may it stand behind another, and may all the entries
 // of a file from a position on?
 // Relies on the definitions of `model`, on `file` for numbers in a file and on `columns` for left sides. Called by
-// `unpacking`, `packing` and `packed`; their proofs cite the laws on entries as bytes.
+// `unpacking`, `packing`, `packed`, `marks` and `soundness`; their proofs cite the laws on entries as bytes.
 ghost use Prim.Native.Nat.{_+_, _*_, _≤_};
 ghost use mathlib.Core.Path.{_≡_};
 ghost use lib.ListN.{length};

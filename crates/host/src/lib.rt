@@ -11,6 +11,7 @@ ghost use Rattle.model.specs.Question.{questionCode, askMeaning, pairMeaning};
 ghost use Rattle.model.specs.List.{ListMeaning};
 ghost use Rattle.model.specs.Packing.{packMeaning, outputAfter};
 ghost use Rattle.model.specs.Reading.{openMeaning, readMeaning, runRead};
+ghost use Rattle.model.specs.Verify.{verifyMeaning};
 ghost use Rattle.model.specs.Calls.{seen};
 ghost use Rattle.numbers.specs.Number.{numberOf, valueOr, statusOf, foundOf, listSeen};
 use model::AskAnswer;
@@ -18,6 +19,7 @@ use model::CheckAnswer;
 use model::Entry;
 use model::OpenAnswer;
 use model::PairAnswer;
+use model::VerifyAnswer;
 
 // 0 for a catalogue, with its tables and the sets over all targets; the two are written only then.
 #[no_mangle]
@@ -159,4 +161,20 @@ pub extern "C" fn cagberin_pack(entries: &[Entry], out: &mut [u8]) -> i64
 {
     let answer = packed::pack(entries, out);
     numbers::pack_number(answer)
+}
+
+// The number of entries of the packed list that ends a file, if these evidence records show that it is the full listing
+// of the catalogue. Nothing is written.
+#[no_mangle]
+pub extern "C" fn cagberin_verify(cat: &[u8], list: &[u8], evidence: &[u8]) -> i64
+    ensures { λ r.
+        ⌜ r ≡ numberOf 0 (verifyMeaning (now (cat .entry)) (now (list .entry)) (now (evidence .entry))) ⌝ }
+{
+    match verify::verify(cat, list, evidence) {
+        VerifyAnswer::Accepted {
+            entries: k,
+            records: _,
+        } => k as i64,
+        VerifyAnswer::Refused(r) => numbers::wide_negative(r),
+    }
 }

@@ -1,18 +1,19 @@
 // Not for callers: the keys of a target's members, laid from the catalogue. The key of a row on a member is the
 // lowest row that agrees with it there, so above the keys nothing looks at codes, missing cells or ancestor rows.
 // Relies on `layout` for what stands where, on `climb` for the rows reached, on `grouping` for rows grouped by words,
-// and on the laws of `leaders` and `filled`. Called by `rights` and `dependency`.
+// and on the laws of `leaders` and `filled`. Called by `rights`, `dependency`, `records` and
+// `soundness`.
 mod column;
 
-ghost use Prim.Native.Nat.{ℕ, _+_, _*_, _^_, _≤_, _<_};
+ghost use Prim.Native.Nat.{ℕ, _+_, _-_, _*_, _^_, _≤_, _<_};
 ghost use mathlib.Core.Path.{_≡_};
 ghost use lib.ListN.{length, getD};
 ghost use Rattle.columns.specs.Bound.{columnBound};
 ghost use Rattle.model.specs.Bounds.{rowBound};
-ghost use Rattle.model.specs.Catalogue.{tables, visible};
+ghost use Rattle.model.specs.Catalogue.{tables, rows as rowsOf, visible};
 ghost use Rattle.model.specs.Check.{Accepted};
 ghost use Rattle.model.specs.Target.{view};
-ghost use Rattle.leaders.specs.Keys.{keysSize, LaidFor};
+ghost use Rattle.leaders.specs.Keys.{keysSize, LaidFor, Keyed};
 ghost use Rattle.keys.specs.Column.{LaidTable};
 use bits::power;
 use climb::code_at;
@@ -86,4 +87,16 @@ pub fn lay(cat: &[u8], target: u32, n: u32, set: u32, keys: &mut [u16; SIZE])
         parent_rows(cat, o + 6, 2 + 4 * c, end, &mut reached);
         at = index(short_at(cat, o + 2));
     }
+}
+
+// Lays the keys of all members of a target with n visible columns.
+pub fn lay_all(cat: &[u8], target: u32, n: u32, all: &mut [u16; SIZE])
+    requires { ⌜ Accepted (now cat) ⌝ }
+    requires { ⌜ target < tables (now cat) ⌝ }
+    requires { ⌜ n ≡ visible (now cat) target ⌝ }
+    requires { ⌜ length (now all) ≡ keysSize ⌝ }
+    ensures { λ _.
+        ⌜ Keyed (view (now (cat .entry)) target) (2 ^ n - 1) n (rowsOf (now (cat .entry)) target) (now (all .exit)) ⌝ }
+{
+    lay(cat, target, n, power(n) - 1, all);
 }

@@ -13,7 +13,7 @@ use Rattle.model.proofs.View.{agreeOn-is}
 use Rattle.model.proofs.First.{firstFrom-same}
 use Rattle.leaders.specs.Leaders.{leaderOf}
 use Rattle.leaders.specs.Keys.{firstSame}
-use Rattle.leaders.proofs.Leaders.{leader-is, leader-le, leader-least, same-leader}
+use Rattle.leaders.proofs.Leaders.{leader-is, leader-le, same-leader}
 use Rattle.leaders.proofs.Keys.{numbers-equivalence, agreeOn-one}
 
 -- where rows agree exactly if their numbers are equal, the first row with the same number is the leader
@@ -55,9 +55,6 @@ module _ (ws : List ℕ) where
   firstSame-word q =
       subst (λ (p : ℕ). getD ws p 0 ≡ getD ws q 0) (sym (leads q))
       (agreed (leaderOf (byNumber ws) 1 q) q .0 (leader-is (byNumber ws) equivalence 1 q .agrees))
-
-  pub firstSame-least : (q r : ℕ) → getD ws r 0 ≡ getD ws q 0 → firstSame ws q ≤ r
-  firstSame-least q r e = omega (arith, leads q, leader-least (byNumber ws) equivalence 1 q r (agreed r q .1 e))
 
   -- rows have the same number exactly if they have the same first
   pub same-first : (p q : ℕ) → (getD ws p 0 ≡ getD ws q 0) ↔ (firstSame ws p ≡ firstSame ws q)

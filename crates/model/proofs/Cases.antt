@@ -33,6 +33,7 @@ use Rattle.model.proofs.Complete.{after-none}
 use Rattle.model.proofs.Computes.{computes}
 use Rattle.model.proofs.Damaged.{damages, at-the-bounds, damage-order}
 use Rattle.model.proofs.RefusedCalls.{refused-questions, refused-listings, refused-lists}
+use Rattle.model.proofs.Supplied.{supplied}
 use Rattle.model.proofs.Line.{line, fork, depth}
 use Rattle.model.proofs.Replies.{question-replies, list-replies, packed-replies, text-replies}
 use Rattle.model.proofs.Values.{bound-values, byte-order, refusal-numbers, answer-values}
@@ -222,6 +223,7 @@ cases =
       refusedQuestions = refused-questions;
       refusedListings = refused-listings;
       refusedLists = refused-lists;
+      supplied = supplied;
       questionReplies = question-replies;
       listReplies = list-replies;
       packedReplies = packed-replies;

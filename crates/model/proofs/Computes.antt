@@ -20,14 +20,14 @@ use Rattle.model.specs.Listed.{listed}
 use Rattle.model.specs.Rights.{rightAt, rightsFrom, rightsIn}
 use Rattle.model.specs.Encode.{headOf, codesOf, rowOf, trailerOf}
 use Rattle.model.specs.Encode.{rowsBytes, tableBytes, tablesBytes, startsFrom, encode}
-use Rattle.model.specs.Album.{album, noRows, oneMissing, bothMissing, equalRows, twoGroups}
+use Rattle.model.specs.Album.{album, noRows, oneMissing, bothMissing, equalRows, twoGroups, keyBelow}
 use Rattle.model.specs.Damaged.{groundsFrom, notZero, grounds, cut, noTable, children, offsetsFrom, manyTables}
 use Rattle.model.specs.Damaged.{longTrailer, lateTable, shortHead, shortRow, leftByte, manyColumns, rowsOnly}
 use Rattle.model.specs.Damaged.{manyRows, rootedRoot, ownParent, tooWide, rootedRow, unknownParentRow, smallest}
 use Rattle.model.specs.Damaged.{mostColumns, mostRows, widest, lateAndLarge, largeAndRooted, ownParentAndWide}
 use Rattle.model.specs.Damaged.{wideAndLong, longAndRooted, rowThenTable, rowThenByte}
 use Rattle.model.specs.Line.{inLine, forked, below, offsetsBy12, deepest}
-use Rattle.columns.specs.Set.{memberOf}
+use Rattle.columns.specs.Set.{memberOf, withinOf}
 use Rattle.model.specs.Question.{targetCode, leftSideCode, rightSideCode, sidesCode, wordsCode, questionCode}
 use Rattle.model.specs.Question.{askMeaning, pairMeaning}
 use Rattle.model.specs.Calls.{passed, written, placeCode, roomCode, callCode, runAfter, workAfter}
@@ -39,6 +39,12 @@ use Rattle.model.specs.Packing.{packed, outputCode, packCode, packMeanin
 use Rattle.model.specs.Reading.{countIn, distanceIn, entriesHeld, frontOf, tailCode, readCode, openMeaning}
 use Rattle.model.specs.Reading.{entriesRead, frontRead, readFrom, readMeaning, runRead, readAt}
 use Rattle.model.specs.RefusedCalls.{emptyList, lostEntry}
+use Rattle.model.specs.Evidence.{recordBytes, recordAt, recordsBytes, recordsFrom, recordCount, recordsHeld}
+use Rattle.model.specs.Evidence.{unbroken, isTrueRecord, allIn, someIn}
+use Rattle.model.specs.Verify.{isFor, isSoundEntry, isCovered, areTrueRecords, areSoundEntries}
+use Rattle.model.specs.Verify.{areCoveredSets, recordsCode, soundCode, coverCode, evidenceCode, verifyCode}
+use Rattle.model.specs.Verify.{verifyMeaning}
+use Rattle.model.specs.Supplied.{albumList, albumRecords, albumEvidence, keyEvidence}
 use Rattle.model.specs.Text.{answerText, listingText, headLine, refusedLine, linesOf, entryLine, entryText}
 use Rattle.model.specs.Text.{rightText, decimal, decimalIn}
 
@@ -49,13 +55,16 @@ unfolding ones onesIn ifEq ifLt ifLe withoutOf inOrder bySizeFrom ofSize ofSizeF
     widthCode extentCode rowCode tableCode leftCode holds breaks minimal allBelow agreeOn firstFrom firstRow secondRow
     firstPair owner ownerIn ancestor ancestorIn cellsAgree agreeAt listed rightAt rightsFrom rightsIn rightsOf cells
     cellsFrom cellsOf entriesOf headOf codesOf rowOf trailerOf rowsBytes tableBytes tablesBytes startsFrom encode album
-    noRows oneMissing bothMissing equalRows twoGroups groundsFrom notZero grounds cut noTable children offsetsFrom
-    manyTables longTrailer lateTable shortHead shortRow leftByte manyColumns rowsOnly manyRows rootedRoot ownParent
+    noRows oneMissing bothMissing equalRows twoGroups keyBelow groundsFrom notZero grounds cut noTable children
+    offsetsFrom manyTables longTrailer lateTable shortHead shortRow leftByte manyColumns rowsOnly manyRows rootedRoot ownParent
     tooWide rootedRow unknownParentRow smallest mostColumns mostRows widest lateAndLarge largeAndRooted
     ownParentAndWide wideAndLong longAndRooted rowThenTable rowThenByte inLine forked below offsetsBy12 deepest memberOf
     targetCode leftSideCode rightSideCode sidesCode wordsCode questionCode askMeaning pairMeaning passed written
     placeCode roomCode callCode runAfter workAfter firstCode earlier tailCode bytesOf entryAt countIn distanceIn
     entriesBytes packed entriesFrom entriesHeld frontOf entryCode laterCode restCode entriesCode outputCode packCode
     packMeaning outputAfter readCode openMeaning entriesRead frontRead readFrom readMeaning runRead readAt emptyList
-    lostEntry answerText listingText headLine refusedLine linesOf entryLine entryText rightText decimal decimalIn
+    lostEntry recordBytes recordAt recordsBytes recordsFrom recordCount recordsHeld unbroken isTrueRecord allIn someIn
+    isFor isSoundEntry isCovered areTrueRecords areSoundEntries areCoveredSets recordsCode soundCode coverCode
+    evidenceCode verifyCode verifyMeaning withinOf albumList albumRecords albumEvidence
+    keyEvidence answerText listingText headLine refusedLine linesOf entryLine entryText rightText decimal decimalIn
 computes = tt

@@ -112,7 +112,7 @@ ifLe-passes a b x n p e = at (decLt b a)
     at (no q) = omega arith
 
 -- a bound on both values of a test is a bound on its value, and so for the first of two grounds and of a row of them
-pick-le : (t : Bool) {m x y : ℕ} → x ≤ m → y ≤ m → pick t x y ≤ m
+pub pick-le : (t : Bool) {m x y : ℕ} → x ≤ m → y ≤ m → pick t x y ≤ m
 pick-le true p q = p
 pick-le false p q = q
 

@@ -24,6 +24,7 @@ pub mod Text
 pub mod Damaged
 pub mod Line
 pub mod RefusedCalls
+pub mod Supplied
 pub mod Values
 pub mod Replies
 pub mod Cases

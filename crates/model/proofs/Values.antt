@@ -60,6 +60,9 @@ refusal-numbers =
       noList = refl;
       badEntry = refl;
       outputTooShort = refl;
+      falseRecord = refl;
+      unsoundEntry = refl;
+      uncoveredSet = refl;
       last = refl;
     }
 
@@ -78,6 +81,7 @@ answer-values =
       packed = refl;
       opened = refl;
       read = refl;
+      accepted = refl;
       notSound = λ r. refl;
       notAsked = λ r. refl;
       notPaired = λ r. refl;
@@ -85,4 +89,5 @@ answer-values =
       notPacked = λ r. refl;
       notOpened = λ r. refl;
       notRead = λ r. refl;
+      notAccepted = λ r. refl;
     }

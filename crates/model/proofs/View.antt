@@ -121,18 +121,6 @@ holds-false v x a e h = false-is e (holds-is v x a .1 h)
 pub false-holds : (v : View) (x a : ℕ) → (Holds v x a → ⊥) → holds v x a ≡ false
 false-holds v x a n = is-false (λ t. n (holds-is v x a .0 t))
 
-pub minimal-true : (v : View) (x a : ℕ) → minimal v x a ≡ true → Minimal v x a
-minimal-true v x a e = minimal-is v x a .0 (true-is e)
-
-pub true-minimal : (v : View) (x a : ℕ) → Minimal v x a → minimal v x a ≡ true
-true-minimal v x a m = is-true (minimal-is v x a .1 m)
-
-pub minimal-false : (v : View) (x a : ℕ) → minimal v x a ≡ false → Minimal v x a → ⊥
-minimal-false v x a e m = false-is e (minimal-is v x a .1 m)
-
-pub false-minimal : (v : View) (x a : ℕ) → (Minimal v x a → ⊥) → minimal v x a ≡ false
-false-minimal v x a n = is-false (λ t. n (minimal-is v x a .0 t))
-
 -- a failed test has two rows, in some order, that agree on the left and disagree on the right
 pub record Apart (v : View) (x a p q : ℕ) : Type 0 where
   pub one : p < v .rows

@@ -1,5 +1,5 @@
--- The album catalogue of document 01, the small catalogues of its cases K6 to K9, and one for the first breaking pair,
--- as bytes.
+-- The album catalogue of document 01, the small catalogues of its cases K6 to K9, one for the first breaking pair and
+-- one for lists with evidence, as bytes.
 use Prim.Native.Nat.{ℕ}
 use mathlib.Core.List.{List, [], _∷_, _++_}
 use Rattle.model.specs.Bounds.{noParent, missing}
@@ -41,6 +41,14 @@ equalRows =
     encode
     (content 1 noParent ((noParent, 5 ∷ []) ∷ [])
     ∷ content 1 0 ((0, 7 ∷ []) ∷ (0, 7 ∷ []) ∷ [])
+    ∷ [])
+
+-- a root with one row, and under it a table with two rows: the empty set is a key of the root, {1} one below it
+unfoldable pub keyBelow : List ℕ
+keyBelow =
+    encode
+    (content 1 noParent ((noParent, 5 ∷ []) ∷ [])
+    ∷ content 1 0 ((0, 7 ∷ []) ∷ (0, 8 ∷ []) ∷ [])
     ∷ [])
 
 -- two columns and six rows: {0} does not give 1 among the rows 0, 4 and 5, nor among the rows 1 and 2

@@ -21,6 +21,7 @@ use Rattle.model.specs.Text.{answerText}
 use Rattle.model.specs.Album.{album, albumLines, noRows, oneMissing, bothMissing, equalRows, twoGroups}
 use Rattle.model.specs.Damaged.{tooWide, Damages, AtTheBounds, DamageOrder}
 use Rattle.model.specs.RefusedCalls.{RefusedQuestions, RefusedListings, RefusedLists}
+use Rattle.model.specs.Supplied.{Supplied}
 use Rattle.model.specs.Line.{Line, Fork, Depth}
 use Rattle.model.specs.Replies.{QuestionReplies, ListReplies, PackedReplies, TextReplies}
 use Rattle.model.specs.Values.{BoundValues, ByteOrder, RefusalNumbers, AnswerValues}
@@ -80,6 +81,8 @@ pub record Cases : Type 0 where
   pub refusedQuestions : RefusedQuestions
   pub refusedListings : RefusedListings
   pub refusedLists : RefusedLists
+  -- specs/Supplied.antt: the album's list with evidence, and each ground of the refusals 17 to 19
+  pub supplied : Supplied
   -- specs/Replies.antt: replies, and lent memory afterwards
   pub questionReplies : QuestionReplies
   pub listReplies : ListReplies

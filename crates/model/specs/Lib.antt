@@ -19,12 +19,15 @@ pub mod List
 pub mod Entries
 pub mod Packing
 pub mod Reading
+pub mod Evidence
+pub mod Verify
 pub mod Text
 pub mod Encode
 pub mod Album
 pub mod Damaged
 pub mod Line
 pub mod RefusedCalls
+pub mod Supplied
 pub mod Values
 pub mod Replies
 pub mod Cases

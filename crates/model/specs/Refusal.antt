@@ -1,4 +1,5 @@
--- The refusals and their numbers ("Feeder desk codes"), and how grounds are tried in order: 0 says that there is none.
+-- The refusals and their numbers ("Feeder desk codes", and document 02), and how grounds are tried in order: 0 says
+-- that there is none.
 use Prim.Native.Nat.{ℕ, zero, suc}
 use Rattle.columns.specs.Test.{ifEq}
 use Rattle.model.specs.declared.Refusal.{Refusal}
@@ -6,6 +7,7 @@ use Rattle.model.specs.declared.Refusal.the-variants.{FileTooShort, BadT
 use Rattle.model.specs.declared.Refusal.the-variants.{BadParentTable, TooManyVisible, BadParentRow, UnknownTable}
 use Rattle.model.specs.declared.Refusal.the-variants.{UnknownColumn, UnknownRight, TooFewWords, PastTheEnd}
 use Rattle.model.specs.declared.Refusal.the-variants.{RunTooShort, NoList, BadEntry, OutputTooShort}
+use Rattle.model.specs.declared.Refusal.the-variants.{FalseRecord, UnsoundEntry, UncoveredSet}
 
 -- the document's number for each refusal, with its word
 abbrev pub number : Refusal → ℕ
@@ -25,10 +27,14 @@ number RunTooShort = 13  -- tray full
 number NoList = 14  -- no list
 number BadEntry = 15  -- bad entry
 number OutputTooShort = 16  -- short sheet
+-- document 02, b, has no words for these: beside them stand their names
+number FalseRecord = 17  -- false record
+number UnsoundEntry = 18  -- unsound entry
+number UncoveredSet = 19  -- uncovered set
 
 -- the number of the last refusal: each later one adds a line above and moves this one
 abbrev pub lastRefusal : ℕ
-lastRefusal = number OutputTooShort
+lastRefusal = number UncoveredSet
 
 -- the first ground of two
 unfoldable pub orElse : ℕ → ℕ → ℕ

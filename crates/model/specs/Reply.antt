@@ -19,6 +19,8 @@ use Rattle.model.specs.declared.OpenAnswer.{OpenAnswer}
 use Rattle.model.specs.declared.OpenAnswer.the-variants as open-answer
 use Rattle.model.specs.declared.EntriesAnswer.{EntriesAnswer}
 use Rattle.model.specs.declared.EntriesAnswer.the-variants as entries-answer
+use Rattle.model.specs.declared.VerifyAnswer.{VerifyAnswer}
+use Rattle.model.specs.declared.VerifyAnswer.the-variants as verify-answer
 
 pub data Reply : Type 0 where
   refused : ℕ → Reply
@@ -68,3 +70,8 @@ openReply (open-answer.Refused r) = refused (number r)
 abbrev pub entriesReply : EntriesAnswer → Reply
 entriesReply (entries-answer.Read k) = answered (k ∷ [])
 entriesReply (entries-answer.Refused r) = refused (number r)
+
+-- the number of entries, and of evidence records
+abbrev pub verifyReply : VerifyAnswer → Reply
+verifyReply (verify-answer.Accepted k n) = answered (k ∷ n ∷ [])
+verifyReply (verify-answer.Refused r) = refused (number r)

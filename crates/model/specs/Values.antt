@@ -8,13 +8,14 @@ use Rattle.model.specs.Bounds.{tableBound, rowBound, workBound, smallest
 use Rattle.model.specs.Bytes.{byteAt, u16At, u32At, bytes2, bytes4, Bytes}
 use Rattle.model.specs.Refusal.{number, lastRefusal, orElse, firstOf}
 use Rattle.model.specs.Reply.{Reply, refused, answered, replyOf, checkReply, askReply, pairReply, listReply}
-use Rattle.model.specs.Reply.{packReply, openReply, entriesReply}
+use Rattle.model.specs.Reply.{packReply, openReply, entriesReply, verifyReply}
 use Rattle.model.specs.Album.{album}
 use Rattle.model.specs.declared.Refusal.{Refusal}
 use Rattle.model.specs.declared.Refusal.the-variants.{FileTooShort, BadTrailer, BadExtent, TableTooLarge}
 use Rattle.model.specs.declared.Refusal.the-variants.{BadParentTable, TooManyVisible, BadParentRow, UnknownTable}
 use Rattle.model.specs.declared.Refusal.the-variants.{UnknownColumn, UnknownRight, TooFewWords, PastTheEnd}
 use Rattle.model.specs.declared.Refusal.the-variants.{RunTooShort, NoList, BadEntry, OutputTooShort}
+use Rattle.model.specs.declared.Refusal.the-variants.{FalseRecord, UnsoundEntry, UncoveredSet}
 use Rattle.model.specs.declared.CheckAnswer.the-variants as check-answer
 use Rattle.model.specs.declared.AskAnswer.the-variants as ask-answer
 use Rattle.model.specs.declared.PairAnswer.the-variants as pair-answer
@@ -22,6 +23,7 @@ use Rattle.model.specs.declared.ListAnswer.the-variants as list-answer
 use Rattle.model.specs.declared.PackAnswer.the-variants as pack-answer
 use Rattle.model.specs.declared.OpenAnswer.the-variants as open-answer
 use Rattle.model.specs.declared.EntriesAnswer.the-variants as entries-answer
+use Rattle.model.specs.declared.VerifyAnswer.the-variants as verify-answer
 
 -- "Bounds", "The catalogue file" and "Agreement"
 pub record BoundValues : Type 0 where
@@ -59,7 +61,7 @@ pub record ByteOrder : Type 0 where
   -- its trailer: offsets 0 and 24, 2 tables, the trailer at 70
   pub albumTrailer : drop 70 album ≡ 0 ∷ 0 ∷ 0 ∷ 0 ∷ 24 ∷ 0 ∷ 0 ∷ 0 ∷ 2 ∷ 0 ∷ 70 ∷ 0 ∷ 0 ∷ 0 ∷ []
 
--- "Feeder desk codes"
+-- "Feeder desk codes", and document 02
 pub record RefusalNumbers : Type 0 where
   pub fileTooShort : number FileTooShort ≡ 1
   pub badTrailer : number BadTrailer ≡ 2
@@ -77,7 +79,10 @@ pub record RefusalNumbers : Type 0 where
   pub noList : number NoList ≡ 14
   pub badEntry : number BadEntry ≡ 15
   pub outputTooShort : number OutputTooShort ≡ 16
-  pub last : _≡_ {A = ℕ} lastRefusal 16
+  pub falseRecord : number FalseRecord ≡ 17
+  pub unsoundEntry : number UnsoundEntry ≡ 18
+  pub uncoveredSet : number UncoveredSet ≡ 19
+  pub last : _≡_ {A = ℕ} lastRefusal 19
 
 -- a refusal returns its number alone, an answer its values
 pub record AnswerValues : Type 0 where
@@ -97,6 +102,8 @@ pub record AnswerValues : Type 0 where
   pub packed : packReply (pack-answer.Packed 20) ≡ answered (20 ∷ [])
   pub opened : openReply (open-answer.Opened 3 2) ≡ answered (3 ∷ 2 ∷ [])
   pub read : entriesReply (entries-answer.Read 3) ≡ answered (3 ∷ [])
+  -- the check by evidence: entries, and records
+  pub accepted : verifyReply (verify-answer.Accepted 3 6) ≡ answered (3 ∷ 6 ∷ [])
   -- and each refused
   pub notSound : (r : Refusal) → checkReply (check-answer.Refused r) ≡ refused (number r)
   pub notAsked : (r : Refusal) → askReply (ask-answer.Refused r) ≡ refused (number r)
@@ -105,3 +112,4 @@ pub record AnswerValues : Type 0 where
   pub notPacked : (r : Refusal) → packReply (pack-answer.Refused r) ≡ refused (number r)
   pub notOpened : (r : Refusal) → openReply (open-answer.Refused r) ≡ refused (number r)
   pub notRead : (r : Refusal) → entriesReply (entries-answer.Refused r) ≡ refused (number r)
+  pub notAccepted : (r : Refusal) → verifyReply (verify-answer.Refused r) ≡ refused (number r)

@@ -29,6 +29,9 @@ pub const ENTRY_BYTES: usize = 4;
 
 pub const TRAILER_BYTES: usize = 8;
 
+// The bytes of an evidence record: `evidenceBytes` of specs/Evidence.antt.
+pub const EVIDENCE_BYTES: usize = 8;
+
 // An entry of a listing: in the target table, the left side gives the right side. Laid out as in C, so that hosts can
 // lend runs of them.
 #[repr(C)]
@@ -36,6 +39,16 @@ pub struct Entry {
     pub target: u8,
     pub right: u8,
     pub left: u16,
+}
+
+// An evidence record: two rows of the target, said to agree on the set and disagree on the right side. It travels as
+// bytes.
+pub struct Evidence {
+    pub target: u8,
+    pub right: u8,
+    pub set: u16,
+    pub first: u16,
+    pub second: u16,
 }
 
 // Why a call is refused; `number` of specs/Refusal.antt gives each its number.
@@ -56,6 +69,9 @@ pub enum Refusal {
     NoList,
     BadEntry,
     OutputTooShort,
+    FalseRecord,
+    UnsoundEntry,
+    UncoveredSet,
 }
 
 // What checking a catalogue answers: how many tables, and how many sets over all targets.
@@ -105,5 +121,11 @@ pub enum ReadAnswer {
 // How many entries of a packed list were read into a lent run.
 pub enum EntriesAnswer {
     Read { count: usize },
+    Refused(Refusal),
+}
+
+// What the check of a packed list by evidence answers: how many entries and how many records were accepted.
+pub enum VerifyAnswer {
+    Accepted { entries: u32, records: usize },
     Refused(Refusal),
 }

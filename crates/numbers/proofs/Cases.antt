@@ -18,6 +18,8 @@ number-cases =
       keptFirst = refl;
       keptSecond = refl;
       kept = refl;
+      accepted = refl;
+      notAccepted = refl;
       listed = refl;
       notListed = refl;
     }

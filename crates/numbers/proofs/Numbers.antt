@@ -1,7 +1,7 @@
 -- Refusals as negative numbers: each fits both signed widths, so it is read back as it was written, and shows the
 -- refusal that it came from.
 use Prim.Native.Nat.{ℕ, suc, _-_, _<_, _^_}
-use mathlib.Core.Path.{_≡_, refl, sym, ap, _∙_, subst}
+use mathlib.Core.Path.{_≡_, sym, ap, _∙_, subst}
 use native.Mathlib.Decide.{ℕ-discrete}
 use native.Mathlib.Omega.{arith}
 use mathlib.Core.List.{[], _∷_}

@@ -65,7 +65,7 @@ earlier-rank e f a b s t (inr (q, inl p)) = omega (arith, rank-grows columnBound
 earlier-rank e f a b s t (inr (q, inr (p, r))) =
     omega (arith, ap (rankOf columnBound) p, right-grows (e .right) (f .right) (a .right) (b .right) r)
 
-later : (e f : Entry) → laterCode e f ≡ 0 → Earlier e f
+pub later : (e f : Entry) → laterCode e f ≡ 0 → Earlier e f
 unfolding laterCode
 later e f h = earlier-is e f .0 (subst T (sym (picked (earlier e f) (number BadEntry) bad-some h)) tt)
 

@@ -4,7 +4,7 @@
 // `open` refuses gives the refusal, 'end' and no byte in front, never an entry.
 // Relies on the definitions of `model`, on `entries` for 15, and on `unpacking` and `packing` for all that needs no
 // run of records and no reader.
-// Called by hosts and programs.
+// Called by hosts and programs, and by `verify`.
 mod fill;
 
 pub use fill::read;

@@ -7,12 +7,14 @@ use native.Mathlib.Decide.{decLt}
 use native.Mathlib.Omega.{arith}
 use lib.Dec.{T, eqb}
 use lib.Pow.{pow-add, pow-lt, pow-mono}
+use Rattle.columns.specs.Bound.{columnBound}
 use Rattle.columns.specs.Set.{bit}
 use Rattle.columns.proofs.Bits.{bit-above, bit-below, bit-past}
 use Rattle.model.specs.View.{allBelow}
 use Rattle.model.proofs.Truth.{eqb-is, allBelow-is}
 use Rattle.table.specs.Words.{word, Above}
 use Rattle.planes.specs.Bits.{planeBit, clearOf}
+use Rattle.planes.specs.Plane.{seedWords}
 
 -- a left side below 2 ^ n stands in one of the first 2 ^ (n - 5) words
 pub power-words : (n : ℕ) → 5 ≤ n → 2 ^ n ≡ 2 ^ (n - 5) * 32
@@ -20,6 +22,10 @@ power-words n h = ap (λ (k : ℕ). 2 ^ k) whole ∙ pow-add 2 (n - 5) 5
   where
     whole : n ≡ n - 5 + 5
     whole = omega arith
+
+-- and there are not many of them
+pub seedWords-small : (n : ℕ) → n ≤ columnBound → seedWords n ≤ 2048
+seedWords-small n h = pow-mono {i = n - 5} {j = 11} (omega arith)
 
 -- the position of a left side gives its five low columns, and the word's index the others
 pub bit-low : (i j a : ℕ) → j < 32 → a < 5 → bit (i * 32 + j) a ≡ bit j a

@@ -14,7 +14,7 @@ use Rattle.table.specs.Words.{word}
 use Rattle.table.specs.Broken.{Occurs}
 use Rattle.table.proofs.Bits.{passes}
 use Rattle.planes.specs.Bits.{planeBit, planeWord}
-use Rattle.planes.specs.Plane.{seedWords, Seeds, Sown}
+use Rattle.planes.specs.Plane.{seedWords, SeedsBelow, Sown}
 use Rattle.planes.proofs.Bits.{power-words}
 
 planeWord-bit : (seen : ℕ → Bool) (s : ℕ) → bit (planeWord seen (s / 32)) (s % 32) ≡ pick (seen s) 1 0
@@ -22,11 +22,11 @@ planeWord-bit seen s =
     let e : s / 32 * 32 + s % 32 ≡ s = omega arith in
     setBelow-bit 32 (λ j. seen (s / 32 * 32 + j)) (s % 32) (omega arith) ∙ ap (λ (i : ℕ). pick {A = ℕ} (seen i) 1 0) e
 
-pub gathered-seeds : (v : View) (seen : ℕ → Bool) (ws : List ℕ)
-    → ((s : ℕ) → s < 2 ^ v .members → T (seen s) ↔ Occurs v s)
-    → ((i : ℕ) → i * 32 < 2 ^ v .members → word ws i ≡ planeWord seen i)
-    → Seeds v ws
-gathered-seeds v seen ws occurs gathered s l =
+pub gathered-seeds : (v : View) (m : ℕ) (seen : ℕ → Bool) (ws : List ℕ)
+    → ((s : ℕ) → s < 2 ^ m → T (seen s) ↔ Occurs v s)
+    → ((i : ℕ) → i * 32 < 2 ^ m → word ws i ≡ planeWord seen i)
+    → SeedsBelow v m ws
+gathered-seeds v m seen ws occurs gathered s l =
     let is = ap (λ (w : ℕ). bit w (s % 32)) (gathered (s / 32) (omega arith)) ∙ planeWord-bit seen s in (
       λ e. occurs s l .0 (passes (seen s) .0 (sym is ∙ e)),
       λ f. is ∙ passes (seen s) .1 (occurs s l .1 f),

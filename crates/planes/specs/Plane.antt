@@ -14,9 +14,13 @@ use Rattle.planes.specs.Bits.{planeBit}
 abbrev pub seedWords : ℕ → ℕ
 seedWords n = 2 ^ (n - 5)
 
--- the seeds: the bit of s is 1 exactly if s is the agree set of a pair of rows
+-- seeds among the sets of m columns: the bit of s is 1 exactly if s is the agree set of a pair of rows; and the seeds,
+-- among the sets of members
+abbrev pub SeedsBelow : View → ℕ → List ℕ → Type 0
+SeedsBelow v m ws = (s : ℕ) → s < 2 ^ m → (planeBit ws s ≡ 1) ↔ Occurs v s
+
 abbrev pub Seeds : View → List ℕ → Type 0
-Seeds v ws = (s : ℕ) → s < 2 ^ v .members → (planeBit ws s ≡ 1) ↔ Occurs v s
+Seeds v ws = SeedsBelow v (v .members) ws
 
 -- the words hold the seeds of a view of n members
 pub record Sown (v : View) (n : ℕ) (ws : List ℕ) : Type 0 where

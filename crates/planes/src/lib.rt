@@ -1,7 +1,7 @@
-// Not for callers: planes of bits, for calls that are lent less than one word for each left side. The seeds are the
-// agree sets, and a plane says for one right which left sides do not give it.
-// Relies on the definitions of `model` and `columns`, and on `table` for the closing. Called by `blocks`; `scan`
-// makes the seeds.
+// Not for callers: planes of bits, one for each left side, where there is no room for a word for each. The seeds are
+// the agree sets, and a plane says for one right which left sides do not give it.
+// Relies on the definitions of `model` and `columns`, and on `table` for the closing. Called by `blocks`,
+// `marks` and `soundness`; `scan` makes the seeds.
 ghost use Prim.Native.Nat.{_-_, _/_, _^_, _≤_, _<_};
 ghost use mathlib.Core.Path.{_≡_};
 ghost use mathlib.Core.Bool.{true};
@@ -11,6 +11,9 @@ ghost use Rattle.columns.specs.Bound.{columnBound};
 ghost use Rattle.table.specs.Words.{Narrow};
 ghost use Rattle.planes.specs.Bits.{planeBit, clearOf, SelectedWord, ClosedWord, PlaneFrom};
 use bits::power;
+
+// How many words a plane takes at the bound on columns.
+pub const PLANE: usize = 1 << (columns::COLUMN_BOUND - 5);
 
 // The word with a 1 at each position whose bit k is 0.
 fn clear(k: u32) -> u32
@@ -64,7 +67,7 @@ pub fn fill(words: &[u32], n: u32, a: u32, plane: &mut [u32])
 }
 
 // The bit of the left side x.
-fn bit_at(plane: &[u32], x: u32) -> u32
+pub fn bit_at(plane: &[u32], x: u32) -> u32
     requires { ⌜ x / 32 < length (now plane) ⌝ }
     ensures { λ r. ⌜ r ≡ planeBit (now (plane .entry)) x ⌝ }
 {

@@ -9,6 +9,7 @@ use Rattle.model.specs.declared.Refusal.the-variants.{FileTooShort, BadTrailer,
 use Rattle.model.specs.declared.Refusal.the-variants.{BadParentTable, TooManyVisible, BadParentRow, UnknownTable}
 use Rattle.model.specs.declared.Refusal.the-variants.{UnknownColumn, UnknownRight, TooFewWords, PastTheEnd}
 use Rattle.model.specs.declared.Refusal.the-variants.{RunTooShort, NoList, BadEntry, OutputTooShort}
+use Rattle.model.specs.declared.Refusal.the-variants.{FalseRecord, UnsoundEntry, UncoveredSet}
 
 -- the same refusal, the same number
 pub same-number : {r s : Refusal} → r ≡ s → number s ≡ number r
@@ -31,6 +32,9 @@ number-range RunTooShort = (lit≤ tt, lit≤ tt)
 number-range NoList = (lit≤ tt, lit≤ tt)
 number-range BadEntry = (lit≤ tt, lit≤ tt)
 number-range OutputTooShort = (lit≤ tt, lit≤ tt)
+number-range FalseRecord = (lit≤ tt, lit≤ tt)
+number-range UnsoundEntry = (lit≤ tt, lit≤ tt)
+number-range UncoveredSet = (lit≤ tt, lit≤ tt)
 
 -- the code is none of 2 to suc n, and X holds besides
 abbrev pub NoneOf : Type 0 → ℕ → ℕ → Type 0

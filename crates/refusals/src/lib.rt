@@ -1,7 +1,7 @@
 // Not for callers: refusals in code: their numbers, in both directions, and the zeroing of the work words. A ground's
 // code is the refusal's number, or 0 where there is none.
 // Relies on the definitions of `model`. Called by whoever tries grounds or answers: `grounds`, `question`, `catalogue`,
-// `dependency`, `steps` and `numbers`; and by the programs that print a refusal.
+// `dependency`, `steps`, `verify` and `numbers`; and by the programs that print a refusal.
 ghost use Prim.Native.Nat.{_≤_};
 ghost use mathlib.Core.Path.{_≡_};
 ghost use lib.ListN.{length, replicate};
@@ -41,6 +41,12 @@ pub const BAD_ENTRY: u32 = 15;
 
 pub const OUTPUT_TOO_SHORT: u32 = 16;
 
+pub const FALSE_RECORD: u32 = 17;
+
+pub const UNSOUND_ENTRY: u32 = 18;
+
+pub const UNCOVERED_SET: u32 = 19;
+
 // The document's number of a refusal.
 pub fn number(why: Refusal) -> u32
     ensures { λ r. ⌜ r ≡ Refusal·number why ⌝ }
@@ -62,6 +68,9 @@ pub fn number(why: Refusal) -> u32
         Refusal::NoList => NO_LIST,
         Refusal::BadEntry => BAD_ENTRY,
         Refusal::OutputTooShort => OUTPUT_TOO_SHORT,
+        Refusal::FalseRecord => FALSE_RECORD,
+        Refusal::UnsoundEntry => UNSOUND_ENTRY,
+        Refusal::UncoveredSet => UNCOVERED_SET,
     }
 }
 
@@ -86,6 +95,9 @@ pub fn refusal(code: u32) -> Refusal
         NO_LIST => Refusal::NoList,
         BAD_ENTRY => Refusal::BadEntry,
         OUTPUT_TOO_SHORT => Refusal::OutputTooShort,
+        FALSE_RECORD => Refusal::FalseRecord,
+        UNSOUND_ENTRY => Refusal::UnsoundEntry,
+        UNCOVERED_SET => Refusal::UncoveredSet,
         _ => Refusal::FileTooShort,
     }
 }

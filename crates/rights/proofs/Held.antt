@@ -22,9 +22,8 @@ use Rattle.table.proofs.Table.{rights-mask}
 use Rattle.planes.specs.Plane.{seedWords, Sown}
 use Rattle.blocks.specs.Cache.{Roomy, RightsFrom, Stocked}
 use Rattle.blocks.proofs.Cursor.{roomy-begun, ready-begun}
-use Rattle.leaders.specs.Keys.{keyView, LaidFor, Keyed}
+use Rattle.leaders.specs.Keys.{keyView, Keyed}
 use Rattle.leaders.proofs.Keys.{keyed-rights}
-use Rattle.keys.proofs.Catalogue.{laid-catalogue}
 use Rattle.passing.specs.declared.Held.{Held}
 use Rattle.passing.specs.declared.Held.the-variants.{Table, Seeds}
 use Rattle.rights.specs.Kept.{kept}
@@ -129,13 +128,6 @@ module _ (cat : List ℕ) (target : ℕ) where
   pub keyed-rows : {set n end : ℕ} {keys : List ℕ} → end ≡ rows cat target
       → Keyed (view cat target) set n (rows cat target) keys → Keyed (view cat target) set n end keys
   keyed-rows {set} {n} {keys = keys} e keyed = subst (λ (m : ℕ). Keyed (view cat target) set n m keys) (sym e) keyed
-
-  pub laid-all : (n m : ℕ) (keys : List ℕ) → Accepted cat → target < tables cat → n ≡ visible cat target → m ≡ 2 ^ n
-      → LaidFor (view cat target) (m - 1) keys → Keyed (view cat target) (2 ^ n - 1) n (rows cat target) keys
-  laid-all n m keys ok l e f laid =
-      subst (λ (k : ℕ). Keyed (view cat target) (2 ^ n - 1) k (rows cat target) keys) (sym e)
-      (laid-catalogue cat target (2 ^ n - 1) keys ok l
-      (subst (λ (k : ℕ). LaidFor (view cat target) (k - 1) keys) f laid))
 
   pub own-fits : {n own : ℕ} → n ≡ visible cat target → own ≡ ownRights cat target → own < 2 ^ suc n
   own-fits {n} {own} e f =

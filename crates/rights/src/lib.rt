@@ -13,7 +13,6 @@ ghost use Rattle.model.specs.Bounds.{rowBound, workBound};
 ghost use Rattle.model.specs.Catalogue.{tables, rows as rowsOf, visible as visibleOf};
 ghost use Rattle.model.specs.Check.{Accepted};
 ghost use Rattle.model.specs.Listing.{ordinary};
-ghost use Rattle.model.specs.Rights.{rightAt};
 ghost use Rattle.model.specs.Target.{view, ownRights};
 ghost use Rattle.model.specs.View.{View, Equivalence};
 ghost use Rattle.leaders.specs.Keys.{Keyed, keysSize};
@@ -21,7 +20,7 @@ ghost use Rattle.rights.specs.Kept.{kept};
 ghost use Rattle.rights.specs.Ready.{Holding, Ready, Readable, MinimalBy};
 ghost use Rattle.rights.specs.Rights.{listedRights};
 use bits::power;
-use keys::lay;
+use keys::lay_all;
 use layout::inherited;
 use layout::rows;
 use layout::visible;
@@ -44,18 +43,6 @@ fn filter(cat: &[u8], target: u32, left: u32, minimal: u32) -> u32
     minimal
 }
 
-// Lays the keys of all members of a target with n visible columns.
-fn lay_all(cat: &[u8], target: u32, n: u32, all: &mut [u16; SIZE])
-    requires { ⌜ Accepted (now cat) ⌝ }
-    requires { ⌜ target < tables (now cat) ⌝ }
-    requires { ⌜ n ≡ visibleOf (now cat) target ⌝ }
-    requires { ⌜ length (now all) ≡ keysSize ⌝ }
-    ensures { λ _.
-        ⌜ Keyed (view (now (cat .entry)) target) (2 ^ n - 1) n (rowsOf (now (cat .entry)) target) (now (all .exit)) ⌝ }
-{
-    lay(cat, target, n, power(n) - 1, all);
-}
-
 // Fills the work words for any view of n members that the keys are right for, and answers what they hold.
 fn fill(all: &[u16; SIZE], n: u32, end: usize, work: &mut [u32]) -> Held
     requires { ⌜ (n ≤ columnBound) × (end ≤ rowBound) × (workBound ≤ length (now work)) ⌝ }
@@ -68,16 +55,6 @@ fn fill(all: &[u16; SIZE], n: u32, end: usize, work: &mut [u32]) -> Held
     }
     scan::build(all, n, end, work);
     Held::Table
-}
-
-// The right side that bit k stands for, where there are n members.
-pub fn right_at(n: u32, k: u32) -> u32
-    ensures { λ r. ⌜ r ≡ rightAt n k ⌝ }
-{
-    if k == n {
-        return model::ROW;
-    }
-    k
 }
 
 // The rights of the target: its own columns, and the row.

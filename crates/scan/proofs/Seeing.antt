@@ -1,6 +1,6 @@
 -- The scan row by row: the sets of a line are noted one after the other, and those of all lines are the agree sets
 -- that occur.
-use Prim.Native.Nat.{ℕ, zero, suc, _+_, _^_, _≤_, _<_}
+use Prim.Native.Nat.{ℕ, _+_, _^_, _≤_, _<_}
 use mathlib.Core.Path.{_≡_, refl, sym, ap, subst, _∙_}
 use mathlib.Core.Logic.{_⊎_, inl, inr, ⊎-elim, _↔_}
 use mathlib.Core.List.{List}
@@ -15,6 +15,7 @@ use Rattle.columns.proofs.SetBelow.{setBelow-lt}
 use Rattle.model.specs.View.{View}
 use Rattle.table.specs.Words.{word}
 use Rattle.table.specs.Broken.{agreeSetOf, Pair}
+use Rattle.table.proofs.Bits.{word-blank}
 use Rattle.leaders.specs.Keys.{keyView}
 use Rattle.lines.specs.Lines.{LineOf}
 use Rattle.scan.specs.SeenSets.{InLine, SetNoted, LineNoted, Blank, SeenSets}
@@ -68,13 +69,8 @@ pub record SeenBefore (keys : List ℕ) (n end x : ℕ) (seen : List ℕ) : Type
       → (word seen s ≡ 1)
       ↔ ((p : ℕ) × (q : ℕ) × (p < x) × Pair (keyView keys n end) p q × (agreeSetOf (keyView keys n end) p q ≡ s))
 
-zeros : (m i : ℕ) → word (replicate m 0) i ≡ 0
-zeros zero i = refl
-zeros (suc m) zero = refl
-zeros (suc m) (suc i) = zeros m i
-
 pub blank-begun : Blank (replicate (2 ^ columnBound) 0)
-blank-begun = record { long = length-replicate {A = ℕ} (2 ^ columnBound) 0; zeros = zeros (2 ^ columnBound) }
+blank-begun = record { long = length-replicate {A = ℕ} (2 ^ columnBound) 0; zeros = word-blank (2 ^ columnBound) }
 
 pub seen-none : (keys : List ℕ) (n end : ℕ) (seen : List ℕ) → Blank seen → SeenBefore keys n end 0 seen
 seen-none keys n end seen blank = record {

@@ -22,7 +22,7 @@ use Rattle.table.specs.Broken.{Occurs, Table}
 use Rattle.table.proofs.Scan.{noted-scanned}
 use Rattle.table.proofs.Table.{scanned-closed-table}
 use Rattle.planes.specs.Bits.{planeWord}
-use Rattle.planes.specs.Plane.{seedWords, Sown}
+use Rattle.planes.specs.Plane.{seedWords, SeedsBelow, Sown}
 use Rattle.planes.proofs.Bits.{power-words}
 use Rattle.planes.proofs.Seeds.{gathered-seeds, sown-kept}
 use Rattle.leaders.specs.Keys.{keyView, Keyed}
@@ -96,21 +96,28 @@ module _ {keys seen : List ℕ} {n end : ℕ} (seen-is : SeenSets keys n end see
       (scanned-closed-table (keyView keys n end) mid after (key-equivalence keys n end) few
       (noted-scanned (keyView keys n end) (seenAt seen) mid (λ s l. tests s) (filled-first written)) closed)
 
-  -- gathered, they are the seeds, whatever is stored behind them
-  pub sown : {before mid : List ℕ} (m : ℕ) → 5 ≤ n → m ≡ seedWords n
-      → Filled 0 (seedWords n) (planeWord (seenAt seen)) before mid
-      → (v : View) → Keyed v (2 ^ n - 1) n end keys → Equivalence v → Sown v n (set mid (m + 1) 0)
-  sown {before} {mid} m h is written v keyed eq =
-      sown-kept v n mid (set mid (m + 1) 0) h (λ i k. getD-set-other mid (m + 1) i 0 0 (λ u. omega arith))
-      (record {
-        members = keyed .members;
-        equivalence = eq;
-        seeds = gathered-seeds v (seenAt seen) mid (λ s l. for-view s)
-            (λ i l. filled-first written i (omega (arith, power-words n h, ap (λ (k : ℕ). 2 ^ k) (keyed .members))));
-      })
+  -- gathered, they are the seeds
+  pub sown-among : {before after : List ℕ} (m : ℕ) → 5 ≤ m
+      → Filled 0 (seedWords m) (planeWord (seenAt seen)) before after
+      → (v : View) → Keyed v (2 ^ n - 1) n end keys → SeedsBelow v m after
+  sown-among {before} {after} m h written v keyed =
+      gathered-seeds v m (seenAt seen) after (λ s l. for-view s)
+      (λ i l. filled-first written i (omega (arith, power-words m h)))
     where
       for-view : (s : ℕ) → T (seenAt seen s) ↔ Occurs v s
       for-view s =
           let by = tests s in
           let same = keyed-occurs keyed s in
           (λ t. same .0 (by .0 t), λ f. by .1 (same .1 f))
+
+-- they stay the seeds, whatever is stored behind them
+pub sown : {keys : List ℕ} {n end : ℕ} (mid : List ℕ) (m : ℕ) → 5 ≤ n → m ≡ seedWords n
+    → ((v : View) → Keyed v (2 ^ n - 1) n end keys → SeedsBelow v n mid)
+    → (v : View) → Keyed v (2 ^ n - 1) n end keys → Equivalence v → Sown v n (set mid (m + 1) 0)
+sown {keys} {n} mid m h is seeds v keyed eq =
+    sown-kept v n mid (set mid (m + 1) 0) h (λ i k. getD-set-other mid (m + 1) i 0 0 (λ u. omega arith))
+    (record {
+      members = keyed .members;
+      equivalence = eq;
+      seeds = λ s l. seeds v keyed s (omega (arith, ap (λ (k : ℕ). 2 ^ k) (keyed .members)));
+    })

@@ -7,7 +7,7 @@ ghost use Rattle.model.specs.Bounds.{rowBound};
 ghost use Rattle.model.specs.View.{View, Equivalence};
 ghost use Rattle.table.specs.Words.{word};
 ghost use Rattle.planes.specs.Bits.{planeWord};
-ghost use Rattle.planes.specs.Plane.{seedWords, Sown};
+ghost use Rattle.planes.specs.Plane.{seedWords, SeedsBelow, Sown};
 ghost use Rattle.leaders.specs.Keys.{Keyed};
 ghost use Rattle.filled.specs.Filled.{Filled};
 ghost use Rattle.scan.specs.SeenSets.{seenAt};
@@ -46,8 +46,21 @@ fn write_seeds(seen: &[u8; SETS], n: u32, words: &mut [u32])
     }
 }
 
-// The seeds of the view that the keys are laid for: bit s is 1 exactly if s is the agree set of a pair of rows. No
-// rights are cached behind them.
+// The seeds of the view that the keys are laid for: bit s is 1 exactly if s is the agree set of a pair of rows. They
+// stand among the sets of m columns, of which the members are the first n.
+pub fn sow_among(keys: &[u16; SIZE], n: u32, m: u32, end: usize, words: &mut [u32])
+    requires { ⌜ (n ≤ columnBound) × (5 ≤ m) × (m ≤ columnBound) × (end ≤ rowBound)
+        × (seedWords m ≤ length (now words)) ⌝ }
+    ensures { λ _. ⌜ (length (now (words .exit)) ≡ length (now (words .entry)))
+        × ((v : View) → Keyed v (2 ^ n - 1) n end (now (keys .entry)) → SeedsBelow v m (now (words .exit))) ⌝ }
+{
+    let mut seen = [0; SETS];
+    occurring(keys, n, end, &mut seen);
+    write_seeds(&seen, m, words);
+}
+
+// The seeds among the sets of members, with no rights cached behind them. It does not call `sow_among`: a listing's
+// stack has no room for a second array of agree sets beside that of `build`.
 pub fn sow(keys: &[u16; SIZE], n: u32, end: usize, words: &mut [u32])
     requires { ⌜ (5 ≤ n) × (n ≤ columnBound) × (end ≤ rowBound) × (seedWords n + 4 ≤ length (now words)) ⌝ }
     ensures { λ _. ⌜ ((v : View) → Keyed v (2 ^ n - 1) n end (now (keys .entry)) → Equivalence v

@@ -13,7 +13,7 @@ pub fn put(w: Walk) -> Stepped
 {
     let m = w.pending;
     let k = u32::trailing_zeros(m);
-    let right = rights::right_at(w.members, k);
+    let right = table::right_at(w.members, k);
     let mut v = w;
     v.pending = m - power(k);
     Stepped::Put(

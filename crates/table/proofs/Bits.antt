@@ -1,5 +1,5 @@
 -- Laws of bits, for every width: of joined, masked and complemented numbers, of a power of two, of the lowest bit,
--- and of the mask of a test.
+-- of the mask of a test, and of words that are all 0.
 use Prim.Native.Nat.{ℕ, zero, suc, _+_, _-_, _*_, _/_, _%_, _^_, _≤_, _<_, min, max}
 use mathlib.Core.Path.{_≡_, refl, sym, ap, _∙_}
 use mathlib.Core.Logic.{_↔_}
@@ -11,13 +11,14 @@ use lib.Arith.{bin-ind}
 use lib.Bits.{bitAnd, bitOr, bitXor, differ, or-step, xor-step, and-step, or-shr, xor-shr}
 use lib.Bits.{or-lt, or-add-and, and-le-r, and-self}
 use lib.Dec.{T}
+use lib.ListN.{replicate}
 use lib.Pow.{pow-lt, shl-shr}
 use Rattle.columns.specs.Set.{bit, withoutOf}
 use Rattle.columns.specs.Test.{pick}
 use Rattle.columns.proofs.SetBelow.{setBelow-lt, setBelow-bit}
 use Rattle.columns.proofs.Bits.{low-bit, bit-zero, bit-suc, bit-below, bit-past, bit-and, without-some}
 use Rattle.columns.specs.Set.{setBelow}
-use Rattle.table.specs.Words.{lackingOf}
+use Rattle.table.specs.Words.{word, lackingOf}
 
 -- the bits of either
 or-low : (a b : ℕ) → bitOr a b % 2 ≡ max (a % 2) (b % 2)
@@ -134,3 +135,9 @@ mask-bit m f k = (
     at : bit (setBelow m f) k ≡ 1 → Dec (k < m) → (k < m) × T (f k)
     at e (yes l) = (l, passes (f k) .0 (sym (setBelow-bit m f k l) ∙ e))
     at e (no n) = absurd (omega (arith, bit-past (setBelow m f) m k (setBelow-lt m f) (omega arith)))
+
+-- words that are all 0
+pub word-blank : (m i : ℕ) → word (replicate m 0) i ≡ 0
+word-blank zero i = refl
+word-blank (suc m) zero = refl
+word-blank (suc m) (suc i) = word-blank m i

@@ -1,13 +1,14 @@
 // Not for callers: the table of broken rights, one word for each left side, bit a for right a. A scan notes what each
 // agree set breaks, `close` carries it to every smaller left side, and `minimal_rights` reads a left side's rights
-// off the closed words.
+// off the closed words. `right_at` is the right that a bit stands for.
 // Relies on the definitions of `model` and `columns`, and on `filled` for words that are rewritten in a run. Called
-// by `planes`, `partition`, `scan` and `rights`.
+// by `planes`, `partition`, `scan`, `rights`, `steps`, `soundness` and `coverage`.
 ghost use Prim.Native.Nat.{ℕ, _+_, _%_, _^_, _≤_, _<_};
 ghost use mathlib.Core.Path.{_≡_};
 ghost use mathlib.Core.Logic.{_↔_};
 ghost use lib.ListN.{length};
 ghost use Rattle.columns.specs.Set.{bit};
+ghost use Rattle.model.specs.Rights.{rightAt};
 ghost use Rattle.table.specs.Words.{lackingOf, BlockJoined, ColumnsJoined, ColumnJoined, Closed, ReadOff};
 use bits::power;
 
@@ -107,4 +108,14 @@ pub fn minimal_rights(words: &[u32], x: u32, own: u32) -> u32
         rest = above;
     }
     rights
+}
+
+// The right side that bit k stands for, where there are n members.
+pub fn right_at(n: u32, k: u32) -> u32
+    ensures { λ r. ⌜ r ≡ rightAt n k ⌝ }
+{
+    if k == n {
+        return model::ROW;
+    }
+    k
 }

@@ -2,18 +2,18 @@
 //! dependency.
 
 use crate::trial::{negative, same, Outcome, Trial};
-use crate::{listings, packed, pairs, questions};
+use crate::{listings, packed, pairs, questions, supplied};
 use compare::ffi;
 use compare::lent::{Numbers, Placed};
 use compare::random;
-use compare::simple::{self, Catalogue, Refusal};
+use compare::simple::{self, Catalogue, Entry, Refusal};
 
 /// How many damaged files are made from each catalogue.
 const DAMAGED: usize = 8;
 
 pub fn run(trial: &mut Trial) -> Outcome {
     let layout = random::draft(&mut trial.random).layout();
-    sound(trial, &layout.file)?;
+    let listing = sound(trial, &layout.file)?;
     for _ in 0..DAMAGED {
         let file = random::damaged(&mut trial.random, &layout);
         damaged(trial, &file)?;
@@ -25,11 +25,12 @@ pub fn run(trial: &mut Trial) -> Outcome {
         damaged(trial, &file)?;
     }
     pairs::run(trial)?;
-    packed::run(trial, &layout.file)
+    packed::run(trial, &layout.file)?;
+    supplied::run(trial, &layout, listing)
 }
 
-/// All calls on a sound catalogue.
-fn sound(trial: &mut Trial, file: &[u8]) -> Outcome {
+/// All calls on a sound catalogue, save the check by evidence. Gives its full listing.
+fn sound(trial: &mut Trial, file: &[u8]) -> Result<Vec<Entry>, String> {
     trial.file = file.to_vec();
     let placed = Placed::new(file, &mut trial.random);
     let catalogue =
@@ -40,8 +41,10 @@ fn sound(trial: &mut Trial, file: &[u8]) -> Outcome {
     listings::steps(trial, &placed, &listing, false)?;
     listings::steps(trial, &placed, &listing, true)?;
     listings::any_calls(trial, &placed, &listing)?;
-    packed::listing(trial, file, &listing.concat())?;
-    same(|| "the catalogue after all calls".into(), placed.file(), file)
+    let entries = listing.concat();
+    packed::listing(trial, file, &entries)?;
+    same(|| "the catalogue after all calls".into(), placed.file(), file)?;
+    Ok(entries)
 }
 
 /// The calls on a file that may be refused: each must be refused alike. If it is sound after all, a few calls

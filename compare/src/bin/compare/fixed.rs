@@ -1,37 +1,36 @@
-//! Fixed cases before the random ones: the album and its packed list throughout, catalogues at and past the bounds,
-//! and large ones that are made to break a dependency.
+//! Fixed cases before the random ones: the album, its packed list and its evidence throughout, small catalogues with
+//! their evidence, catalogues at and past the bounds, and large ones that are made to break a dependency.
 
 use crate::catalogues::{check, damaged};
 use crate::trial::{Outcome, Trial, MANY_WORDS};
-use crate::{listings, packed, pairs, questions};
+use crate::{listings, packed, pairs, questions, supplied};
 use compare::lent::Placed;
-use compare::random::{Draft, DraftTable, Random};
-use compare::simple::{self, MISSING, NO_PARENT, ROWS, WORK_WORDS};
+use compare::random::{album, Draft, DraftTable, Layout, Random};
+use compare::simple::{self, COLUMNS, MISSING, NO_PARENT, ROWS, WORK_WORDS};
+
+/// So many lists with a damage are checked by evidence on each catalogue at the bounds.
+const SUPPLIED: usize = 16;
 
 pub fn run(trial: &mut Trial) -> Outcome {
-    album(trial)?;
+    sound_album(trial)?;
     damaged_album(trial)?;
     packed_album(trial)?;
+    supplied::every(trial, album().layout())?;
+    for (columns, rows) in [(0, 0), (0, 2), (1, 1), (1, 2), (4, 3), (5, 4), (6, 4)] {
+        supplied::every(trial, flat_draft(columns, rows).layout())?;
+    }
     for (columns, rows) in [(16, 0), (16, 1), (16, 3), (17, 1), (0, ROWS), (0, ROWS + 1), (2, ROWS), (2, ROWS + 1)] {
         flat(trial, columns, rows)?;
     }
     classes(trial)?;
     pairs::large(trial)?;
-    line(trial)
-}
-
-fn album_file() -> Vec<u8> {
-    let root = |code| (NO_PARENT, vec![code]);
-    let sheet = |parent, tray, profile| (parent, vec![tray, profile]);
-    let shops = DraftTable { columns: 1, parent: NO_PARENT, rows: vec![root(5), root(5), root(MISSING)] };
-    let rows = vec![sheet(0, 1, 7), sheet(1, 3, 7), sheet(2, 1, 8), sheet(2, 2, 8)];
-    let sheets = DraftTable { columns: 2, parent: 0, rows };
-    Draft { tables: vec![shops, sheets] }.file()
+    line(trial)?;
+    wide(trial)
 }
 
 /// Every question and every call on the album, with each number of words at its bound.
-fn album(trial: &mut Trial) -> Outcome {
-    let file = album_file();
+fn sound_album(trial: &mut Trial) -> Outcome {
+    let file = album().file();
     trial.file = file.clone();
     let placed = Placed::new(&file, &mut trial.random);
     let catalogue = check(trial, &placed)?.map_err(|refusal| format!("the album is refused: {refusal:?}"))?;
@@ -43,7 +42,7 @@ fn album(trial: &mut Trial) -> Outcome {
 
 /// The album cut at every length, lengthened, and with each of its bytes altered.
 fn damaged_album(trial: &mut Trial) -> Outcome {
-    let file = album_file();
+    let file = album().file();
     for len in 0..file.len() {
         damaged(trial, &file[..len])?;
     }
@@ -61,7 +60,7 @@ fn damaged_album(trial: &mut Trial) -> Outcome {
 /// Every reading of the album's packed list: alone, behind the album, as an empty list, cut at every length,
 /// lengthened, and with each of its bytes altered.
 fn packed_album(trial: &mut Trial) -> Outcome {
-    let album = album_file();
+    let album = album().file();
     let catalogue = simple::check(&album).map_err(|refusal| format!("the album is refused: {refusal:?}"))?;
     let entries = simple::full_listing(&catalogue).concat();
     let file = packed::written(&entries, &[]);
@@ -82,8 +81,13 @@ fn packed_album(trial: &mut Trial) -> Outcome {
     Ok(())
 }
 
-/// One table, in and past the bounds. Codes from small ranges; the last column is given by the first.
+/// One table, in and past the bounds.
 fn flat(trial: &mut Trial, columns: usize, rows: usize) -> Outcome {
+    whole(trial, flat_draft(columns, rows).layout())
+}
+
+/// Codes from small ranges; the last column is given by the first.
+fn flat_draft(columns: usize, rows: usize) -> Draft {
     let mut random = Random::new(columns as u64);
     let mut row = || {
         let mut codes: Vec<u32> = (0..columns).map(|k| random.below(2 + k % 3) as u32).collect();
@@ -93,8 +97,7 @@ fn flat(trial: &mut Trial, columns: usize, rows: usize) -> Outcome {
         (NO_PARENT, codes)
     };
     let rows = (0..rows).map(|_| row()).collect();
-    let file = Draft { tables: vec![DraftTable { columns, parent: NO_PARENT, rows }] }.file();
-    whole(trial, &file)
+    Draft { tables: vec![DraftTable { columns, parent: NO_PARENT, rows }] }
 }
 
 /// One table of 300 rows whose columns have few classes of rows, or 255 to 300 of them, some with missing cells, each a
@@ -112,7 +115,7 @@ fn classes(trial: &mut Trial) -> Outcome {
         (NO_PARENT, values.into_iter().zip(missing).map(code).collect())
     };
     let rows = (0..300).map(|k| row(k)).collect();
-    whole(trial, &Draft { tables: vec![DraftTable { columns: values.len(), parent: NO_PARENT, rows }] }.file())
+    whole(trial, Draft { tables: vec![DraftTable { columns: values.len(), parent: NO_PARENT, rows }] }.layout())
 }
 
 /// A line of four tables with 16 visible columns, some cells missing at every level.
@@ -128,11 +131,26 @@ fn line(trial: &mut Trial) -> Outcome {
         let rows = (0..rows).map(|_| row()).collect();
         tables.push(DraftTable { columns, parent: if i == 0 { NO_PARENT } else { i - 1 }, rows });
     }
-    whole(trial, &Draft { tables }.file())
+    whole(trial, Draft { tables }.layout())
 }
 
-/// The check, a few questions, and the whole listing with few words and with many.
-fn whole(trial: &mut Trial, file: &[u8]) -> Outcome {
+/// Sixteen visible columns with thousands of entries and hundreds of records, in one table and in two.
+fn wide(trial: &mut Trial) -> Outcome {
+    let mut random = Random::new(16);
+    for (upper, rows) in [(0, 20), (7, 24)] {
+        let mut codes = |columns: usize| (0..columns).map(|k| random.below(2 + k % 3) as u32).collect();
+        let above = (0..4).map(|_| (NO_PARENT, codes(upper))).collect();
+        let below = (0..rows).map(|k| (k % 4, codes(COLUMNS - upper))).collect();
+        let root = DraftTable { columns: upper, parent: NO_PARENT, rows: above };
+        let sheets = DraftTable { columns: COLUMNS - upper, parent: 0, rows: below };
+        supplied::large(trial, Draft { tables: vec![root, sheets] }.layout(), 6)?;
+    }
+    Ok(())
+}
+
+/// The check, a few questions, the whole listing with few words and with many, and its check by evidence.
+fn whole(trial: &mut Trial, layout: Layout) -> Outcome {
+    let file = &layout.file;
     trial.file = file.to_vec();
     let placed = Placed::new(file, &mut trial.random);
     match check(trial, &placed)? {
@@ -144,7 +162,8 @@ fn whole(trial: &mut Trial, file: &[u8]) -> Outcome {
             listings::steps(trial, &placed, &listing, false)?;
             listings::steps(trial, &placed, &listing, true)?;
             listings::any_calls(trial, &placed, &listing)?;
-            packed::listing(trial, file, &listing.concat())
+            packed::listing(trial, file, &listing.concat())?;
+            supplied::large(trial, layout, SUPPLIED)
         }
     }
 }

@@ -7,11 +7,13 @@
 //! catalogue, and ends the run with status 1; `compare 1 SEED` repeats it.
 
 mod catalogues;
+mod damages;
 mod fixed;
 mod listings;
 mod packed;
 mod pairs;
 mod questions;
+mod supplied;
 mod trial;
 
 use std::ops::Range;
@@ -50,7 +52,7 @@ fn main() {
     let complete = count >= 1_000;
     trial.seen.print();
     if complete && !trial.seen.all() {
-        println!("some refusal or answer never occurred");
+        println!("some refusal or answer never occurred, or of the check by evidence too seldom");
         exit(1);
     }
     println!("{count} catalogues from seed {first}, no difference, {:.1} s", start.elapsed().as_secs_f64());
@@ -76,7 +78,7 @@ fn end_on_difference(trial: &Trial, which: &str, result: Result<(), String>) {
         println!("DIFFERENCE, {which}");
         println!("{difference}");
         println!("file of {} bytes:", trial.file.len());
-        println!("{}", trial.file.iter().map(|byte| format!("{byte:02x}")).collect::<String>());
+        println!("{}", trial::hex(&trial.file));
         exit(1);
     }
 }

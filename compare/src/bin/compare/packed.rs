@@ -69,7 +69,7 @@ fn damaged_entries(random: &mut Random, entries: &[Entry]) -> Vec<Entry> {
 }
 
 /// A packed list cut, lengthened, a byte altered, or its count or distance set.
-fn damaged_file(random: &mut Random, mut file: Vec<u8>) -> Vec<u8> {
+pub fn damaged_file(random: &mut Random, mut file: Vec<u8>) -> Vec<u8> {
     let len = file.len();
     let entries = u32::from_le_bytes(file[len - 8..len - 4].try_into().unwrap());
     match random.below(7) {

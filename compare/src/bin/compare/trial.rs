@@ -4,6 +4,7 @@
 use compare::lent::{self, Lent};
 use compare::random::Random;
 use compare::simple::{Entry, Refusal, WORK_WORDS};
+use std::collections::BTreeMap;
 use std::fmt::Debug;
 
 /// The words at which every left side of the widest table has its own.
@@ -80,11 +81,23 @@ pub fn negative(refusal: Refusal) -> i64 {
     -(refusal as i64)
 }
 
-/// How often each refusal and each answer occurred.
+/// The bytes of a file as a report shows them.
+pub fn hex(file: &[u8]) -> String {
+    file.iter().map(|byte| format!("{byte:02x}")).collect()
+}
+
+/// The number of the last refusal.
+const LAST: usize = Refusal::UncoveredSet as usize;
+
+/// How often each refusal and each answer occurred, and each answer of the check by evidence: the refusal's number, or
+/// 0 if the list is accepted, with the first ground that was met. Of the same checks, how many refused the catalogue,
+/// and how many had files with grounds of two kinds.
 #[derive(Default)]
 pub struct Seen {
-    refusals: [u64; 17],
-    answers: std::collections::BTreeMap<&'static str, u64>,
+    refusals: [u64; LAST + 1],
+    answers: BTreeMap<&'static str, u64>,
+    verified: BTreeMap<(u8, &'static str), u64>,
+    also: BTreeMap<&'static str, u64>,
 }
 
 /// The answers that a run of some length must have met.
@@ -107,6 +120,37 @@ const ANSWERS: [&str; 16] = [
     "read, no record lent",
 ];
 
+/// The answers of the check by evidence that a run of some length must have met `OFTEN` times each.
+const VERIFIED: [(u8, &str); 18] = [
+    (0, ""),
+    (14, ""),
+    (15, ""),
+    (17, "broken"),
+    (17, "8"),
+    (17, "9"),
+    (17, "10"),
+    (17, "no such row"),
+    (17, "right in the set"),
+    (17, "rows disagree on the set"),
+    (17, "rows agree on the right"),
+    (18, "8"),
+    (18, "9"),
+    (18, "10"),
+    (18, "fails"),
+    (18, "contains another"),
+    (19, "a set that holds contains no listed left"),
+    (19, "a set that fails lies inside no record"),
+];
+
+/// The same of its refusals of the catalogue, all together, and of files with grounds of two kinds at once and none of
+/// an earlier kind.
+const ALSO: [&str; 4] = [REFUSED_CATALOGUE, LIST_AND_RECORD, RECORD_AND_ENTRY, ENTRY_AND_SET];
+pub const REFUSED_CATALOGUE: &str = "1 to 7";
+pub const LIST_AND_RECORD: &str = "14 or 15 with 17";
+pub const RECORD_AND_ENTRY: &str = "17 with 18";
+pub const ENTRY_AND_SET: &str = "18 with 19";
+const OFTEN: u64 = 200;
+
 impl Seen {
     pub fn refusal(&mut self, refusal: Refusal) {
         self.refusals[refusal as usize] += 1;
@@ -116,20 +160,45 @@ impl Seen {
         *self.answers.entry(name).or_default() += 1;
     }
 
+    pub fn verified(&mut self, number: u8, ground: &'static str) {
+        *self.verified.entry((number, ground)).or_default() += 1;
+    }
+
+    pub fn also(&mut self, name: &'static str) {
+        *self.also.entry(name).or_default() += 1;
+    }
+
     /// What occurred elsewhere as well.
     pub fn add(&mut self, other: &Seen) {
         self.refusals.iter_mut().zip(other.refusals).for_each(|(count, more)| *count += more);
         other.answers.iter().for_each(|(name, more)| *self.answers.entry(name).or_default() += more);
+        other.verified.iter().for_each(|(answer, more)| *self.verified.entry(*answer).or_default() += more);
+        other.also.iter().for_each(|(name, more)| *self.also.entry(name).or_default() += more);
     }
 
     pub fn all(&self) -> bool {
-        self.refusals[1..].iter().all(|count| *count > 0) && ANSWERS.iter().all(|name| self.answers.contains_key(name))
+        self.refusals[1..].iter().all(|count| *count > 0)
+            && ANSWERS.iter().all(|name| self.answers.contains_key(name))
+            && VERIFIED.iter().all(|answer| self.verified.get(answer).is_some_and(|count| *count >= OFTEN))
+            && ALSO.iter().all(|name| self.also.get(name).is_some_and(|count| *count >= OFTEN))
     }
 
     pub fn print(&self) {
-        let refusals: Vec<String> = (1..17).map(|number| format!("{number}: {}", self.refusals[number])).collect();
+        let refusals: Vec<String> = (1..=LAST).map(|number| format!("{number}: {}", self.refusals[number])).collect();
         println!("refusals  {}", refusals.join(", "));
         let answers: Vec<String> = self.answers.iter().map(|(name, count)| format!("{name}: {count}")).collect();
         println!("answers   {}", answers.join("; "));
+        let verified: Vec<String> = self.verified.iter().map(verified_line).collect();
+        println!("verify    {} checks; {}", self.verified.values().sum::<u64>(), verified.join("; "));
+        let also: Vec<String> = self.also.iter().map(|(name, count)| format!("{name}: {count}")).collect();
+        println!("of these  {}", also.join("; "));
+    }
+}
+
+fn verified_line(((number, ground), count): (&(u8, &'static str), &u64)) -> String {
+    match (number, *ground) {
+        (0, _) => format!("accepted: {count}"),
+        (number, "") => format!("{number}: {count}"),
+        (number, ground) => format!("{number}, {ground}: {count}"),
     }
 }

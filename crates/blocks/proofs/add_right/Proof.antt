@@ -4,9 +4,10 @@ use mathlib.Core.Path.{_≡_}
 use native.Mathlib.Omega.{arith}
 use lib.ListN.{length}
 use borrow.Author.Needs.{needs}
+use Rattle.planes.proofs.Bits.{seedWords-small}
 use Rattle.blocks.specs.Cache.{AddedBelow}
 use Rattle.blocks.proofs.Pairs.{adding-begun, adding-more, adding-index, adding-fits, adding-done}
-use Rattle.blocks.proofs.Pairs.{room-small, seedWords-small}
+use Rattle.blocks.proofs.Pairs.{room-small}
 use Rattle.blocks.proofs.add_right.Statement.{statement}
 use Rattle.blocks.proofs.add_right.Tie as tie
 

@@ -1,8 +1,8 @@
 -- `blocks::answer_right` meets its contract.
 use native.Mathlib.Omega.{arith}
 use borrow.Author.Needs.{needs}
+use Rattle.planes.proofs.Bits.{seedWords-small}
 use Rattle.blocks.proofs.Answers.{answered-none, answered-some}
-use Rattle.blocks.proofs.Pairs.{seedWords-small}
 use Rattle.blocks.proofs.answer_right.Statement.{statement}
 use Rattle.blocks.proofs.answer_right.Tie as tie
 

@@ -7,8 +7,9 @@ use borrow.Author.Needs.{needs}
 use Rattle.columns.specs.Order.{nextOf}
 use Rattle.columns.specs.Set.{membersOf}
 use Rattle.columns.specs.declared.SetOrNone.the-variants.{Set}
+use Rattle.planes.proofs.Bits.{seedWords-small}
 use Rattle.blocks.proofs.Pairs.{LeftsBelow, lefts-begun, lefts-more, lefts-done}
-use Rattle.blocks.proofs.Pairs.{next-below, room-small, seedWords-small}
+use Rattle.blocks.proofs.Pairs.{next-below, room-small}
 use Rattle.blocks.proofs.write_lefts.Statement.{statement}
 use Rattle.blocks.proofs.write_lefts.Tie as tie
 

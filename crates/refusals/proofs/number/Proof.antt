@@ -52,6 +52,15 @@ enum-told-15 c = search needs
 enum-told-16 : tie.Need-enum-told-16
 enum-told-16 c = search needs
 
+enum-told-17 : tie.Need-enum-told-17
+enum-told-17 c = search needs
+
+enum-told-18 : tie.Need-enum-told-18
+enum-told-18 c = search needs
+
+enum-told-19 : tie.Need-enum-told-19
+enum-told-19 c = search needs
+
 returns : tie.Need-returns
 returns c = same-number (c .enum-told .given .1)
 
@@ -100,6 +109,15 @@ returns-15 c = same-number (c .enum-told15 .given .1)
 returns-16 : tie.Need-returns-16
 returns-16 c = same-number (c .enum-told16 .given .1)
 
+returns-17 : tie.Need-returns-17
+returns-17 c = same-number (c .enum-told17 .given .1)
+
+returns-18 : tie.Need-returns-18
+returns-18 c = same-number (c .enum-told18 .given .1)
+
+returns-19 : tie.Need-returns-19
+returns-19 c = same-number (c .enum-told19 .given .1)
+
 pub number-spec : {M : Type 1} → statement M
 number-spec =
     tie.close
@@ -120,6 +138,9 @@ number-spec =
     enum-told-14
     enum-told-15
     enum-told-16
+    enum-told-17
+    enum-told-18
+    enum-told-19
     returns
     returns-2
     returns-3
@@ -135,4 +156,7 @@ number-spec =
     returns-13
     returns-14
     returns-15
-    returns-16)
+    returns-16
+    returns-17
+    returns-18
+    returns-19)

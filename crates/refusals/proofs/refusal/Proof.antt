@@ -53,7 +53,16 @@ returns-15 : tie.Need-returns-15
 returns-15 c = search needs
 
 returns-16 : tie.Need-returns-16
-returns-16 c =
+returns-16 c = search needs
+
+returns-17 : tie.Need-returns-17
+returns-17 c = search needs
+
+returns-18 : tie.Need-returns-18
+returns-18 c = search needs
+
+returns-19 : tie.Need-returns-19
+returns-19 c =
     let code = c .before .args .code in
     sym (first-left _ code (lastRefusal - 1) (c .before .pre .0) (c .before .pre .1) (c .match .rest))
 
@@ -76,4 +85,7 @@ refusal-spec =
     returns-13
     returns-14
     returns-15
-    returns-16)
+    returns-16
+    returns-17
+    returns-18
+    returns-19)

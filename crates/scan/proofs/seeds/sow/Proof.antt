@@ -4,7 +4,7 @@ use native.Mathlib.Omega.{arith}
 use borrow.Author.Needs.{needs}
 use lib.ListN.{length}
 use Rattle.scan.proofs.Seeing.{blank-begun}
-use Rattle.scan.proofs.Writing.{sown, none-cached}
+use Rattle.scan.proofs.Writing.{sown-among, sown, none-cached}
 use Rattle.scan.proofs.seeds.sow.Statement.{statement}
 use Rattle.scan.proofs.seeds.sow.Tie as tie
 
@@ -47,9 +47,10 @@ same-length c = search needs
 
 returns : tie.Need-returns
 returns c = (
-  sown (c .before .before .before .before .before .before .occurring .ensures) (c .power .result)
+  sown (c .before .before .before .write-seeds .last .1 .1 .0) (c .power .result)
       (c .before .before .before .before .before .before .before .before .before .pre .0) (c .power .ensures)
-      (c .before .before .before .write-seeds .ensures),
+      (sown-among (c .before .before .before .before .before .before .occurring .ensures) _
+      (c .before .before .before .before .before .before .before .before .before .pre .0) (c .before .before .before .write-seeds .ensures)),
   none-cached _ _ (c .before .before .before .write-seeds .last .1 .1 .0) (c .power .ensures) (behind c),
 )
 

@@ -1,9 +1,9 @@
--- `rights::right_at` meets its contract.
+-- `table::right_at` meets its contract.
 use mathlib.Core.Path.{refl}
 use Rattle.columns.proofs.Test.{is-if-eq, is-if-ne}
 use Rattle.model.specs.Rights.{rightAt}
-use Rattle.rights.proofs.right_at.Statement.{statement}
-use Rattle.rights.proofs.right_at.Tie as tie
+use Rattle.table.proofs.right_at.Statement.{statement}
+use Rattle.table.proofs.right_at.Tie as tie
 
 returns : tie.Need-returns
 unfolding rightAt

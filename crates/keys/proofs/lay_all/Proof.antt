@@ -1,12 +1,12 @@
--- `rights::lay_all` meets its contract: a mask of all members.
+-- `keys::lay_all` meets its contract: a mask of all members.
 use native.Mathlib.Omega.{arith}
 use denote.Ref.{now}
 use lib.Pow.{pow-pos}
 use Rattle.model.proofs.Check.{accepted-visible}
-use Rattle.rights.proofs.Held.{laid-all}
+use Rattle.keys.proofs.Catalogue.{laid-all}
 use borrow.Author.Needs.{needs}
-use Rattle.rights.proofs.lay_all.Statement.{statement}
-use Rattle.rights.proofs.lay_all.Tie as tie
+use Rattle.keys.proofs.lay_all.Statement.{statement}
+use Rattle.keys.proofs.lay_all.Tie as tie
 
 power-requires : tie.Need-power-requires
 power-requires c κs =

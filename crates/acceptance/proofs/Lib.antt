@@ -1,0 +1,7 @@
+pub mod Minimal
+pub mod Entries
+pub mod Full
+pub mod Grounds
+pub mod Exists
+pub mod Packed
+pub mod Accepted

@@ -1,0 +1,4 @@
+pub mod Acceptance
+pub mod Grounds
+pub mod Exists
+pub mod Packed

@@ -1,0 +1,83 @@
+// Not for callers: are the sets of a target covered, by a list's entries and by evidence? For one right at a time, by
+// the planes of the listed lefts and of the records' sets.
+// Relies on `marks` for the planes and on `layout` for how many columns there are. Called by `verify`.
+ghost use Prim.Native.Nat.{_+_, _*_, _≤_, _<_};
+ghost use mathlib.Core.Path.{_≡_};
+ghost use mathlib.Core.Bool.{true};
+ghost use mathlib.Core.Logic.{_↔_};
+ghost use lib.ListN.{length};
+ghost use Rattle.columns.specs.Bound.{columnBound};
+ghost use Rattle.model.specs.Catalogue.{tables};
+ghost use Rattle.model.specs.Check.{Accepted};
+ghost use Rattle.model.specs.Entries.{entryBytes, entriesFrom};
+ghost use Rattle.model.specs.Evidence.{evidenceBytes, recordsFrom, TrueRecord};
+ghost use Rattle.model.specs.Verify.{SoundEntries};
+ghost use Rattle.evidence.specs.Lists.{Each};
+ghost use Rattle.evidence.specs.Sides.{LeftsWithin, SetsWithin};
+ghost use Rattle.coverage.specs.Covered.{RightCovered, TargetCovered};
+use layout::inherited;
+use layout::visible;
+use marks::all_covered;
+use marks::close_lefts;
+use marks::close_sets;
+use marks::wide;
+use planes::PLANE;
+use table::right_at;
+
+// Are the sets of n columns covered for the target and the right of bit a?
+fn right_covered(
+    list: &[u8],
+    count: u32,
+    first: usize,
+    bytes: &[u8],
+    records: usize,
+    target: u32,
+    n: u32,
+    a: u32,
+) -> bool
+    requires { ⌜ (n ≤ columnBound) × (a ≤ n) × (first + entryBytes * count ≤ length (now list))
+        × (evidenceBytes * records ≤ length (now bytes))
+        × LeftsWithin n target (entriesFrom (now list) count first)
+        × SetsWithin n target (recordsFrom (now bytes) records 0) ⌝ }
+    ensures { λ r. ⌜ (r ≡ true)
+        ↔ RightCovered (entriesFrom (now (list .entry)) count first) (recordsFrom (now (bytes .entry)) records 0)
+        target n a ⌝ }
+{
+    let right = right_at(n, a);
+    let m = wide(n);
+    let mut lefts = [0; PLANE];
+    close_lefts(list, count, first, target, right, m, &mut lefts);
+    let mut sets = [0; PLANE];
+    close_sets(bytes, records, target, right, m, &mut sets);
+    all_covered(&lefts, &sets, n, m, a)
+}
+
+// Are the sets of a target covered, where all entries are sound and all records true?
+pub fn target_covered(
+    cat: &[u8],
+    target: u32,
+    list: &[u8],
+    count: u32,
+    first: usize,
+    bytes: &[u8],
+    records: usize,
+) -> bool
+    requires { ⌜ Accepted (now cat) ⌝ }
+    requires { ⌜ target < tables (now cat) ⌝ }
+    requires { ⌜ (first + entryBytes * count ≤ length (now list)) × (evidenceBytes * records ≤ length (now bytes))
+        × SoundEntries (now cat) (entriesFrom (now list) count first)
+        × Each (TrueRecord (now cat)) (recordsFrom (now bytes) records 0) ⌝ }
+    ensures { λ r. ⌜ (r ≡ true)
+        ↔ TargetCovered (now (cat .entry)) (entriesFrom (now (list .entry)) count first)
+        (recordsFrom (now (bytes .entry)) records 0) target ⌝ }
+{
+    let n = visible(cat, target);
+    let mut a = inherited(cat, target);
+    while a <= n {
+        if !right_covered(list, count, first, bytes, records, target, n, a) {
+            return false;
+        }
+        a += 1;
+    }
+    true
+}

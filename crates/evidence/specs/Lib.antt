@@ -1,0 +1,3 @@
+pub mod Lists
+pub mod Sides
+pub mod Small

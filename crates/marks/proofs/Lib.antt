@@ -1,0 +1,6 @@
+pub mod For
+pub mod Marks
+pub mod Marking
+pub mod Closed
+pub mod Reading
+pub mod Sound

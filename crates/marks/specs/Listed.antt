@@ -1,0 +1,37 @@
+-- Listed lefts and records' sets for a target and a right, on planes (document 02, b).
+use Prim.Native.Nat.{ℕ, _^_, _<_}
+use mathlib.Core.Path.{_≡_}
+use mathlib.Core.Logic.{_↔_}
+use mathlib.Core.List.{List}
+use Rattle.model.specs.Verify.{EntryFor, RecordFor, ContainsListed, InsideRecord}
+use Rattle.model.specs.declared.Entry.{Entry}
+use Rattle.model.specs.declared.Evidence.{Evidence}
+use Rattle.planes.specs.Bits.{planeBit}
+use Rattle.marks.specs.Marks.{mirror, Alone}
+
+-- the left of an entry for the two is one of m columns, and so is the set of a record
+abbrev pub NarrowLeft : ℕ → ℕ → ℕ → Entry → Type 0
+NarrowLeft m target right e = EntryFor target right e → e .left < 2 ^ m
+
+abbrev pub NarrowSet : ℕ → ℕ → ℕ → Evidence → Type 0
+NarrowSet m target right e = RecordFor target right e → e .set < 2 ^ m
+
+-- an entry for the two has its left's mirror at y, and a record has its set there
+abbrev pub LeftAt : ℕ → ℕ → ℕ → ℕ → Entry → Type 0
+LeftAt m target right y e = EntryFor target right e × (y ≡ mirror m (e .left))
+
+abbrev pub SetAt : ℕ → ℕ → ℕ → Evidence → Type 0
+SetAt target right y e = RecordFor target right e × (y ≡ e .set)
+
+-- a plane says of each set of m columns whether it contains a left that is listed for the two, by its mirror, and
+-- whether it lies inside a record's set
+pub record LeftsClosed (es : List Entry) (target right m : ℕ) (plane : List ℕ) : Type 0 where
+  pub marks : (x : ℕ) → x < 2 ^ m → (planeBit plane (mirror m x) ≡ 1) ↔ ContainsListed es target right x
+
+pub record SetsClosed (rs : List Evidence) (target right m : ℕ) (plane : List ℕ) : Type 0 where
+  pub marks : (x : ℕ) → x < 2 ^ m → (planeBit plane x ≡ 1) ↔ InsideRecord rs target right x
+
+-- an entry, if it is for the two, is not marked as broken, and contains no other
+abbrev pub SoundBy : List ℕ → List ℕ → ℕ → ℕ → ℕ → Entry → Type 0
+SoundBy broken lefts m target right e =
+    EntryFor target right e → (planeBit broken (e .left) ≡ 0) × Alone lefts m (e .left)

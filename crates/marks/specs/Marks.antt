@@ -1,0 +1,39 @@
+-- Sets of columns marked on a plane, and what is read off planes. Nothing here knows of a catalogue.
+use Prim.Native.Nat.{ℕ, _-_, _^_, _≤_}
+use mathlib.Core.Path.{_≡_}
+use mathlib.Core.Logic.{_↔_, _⊎_}
+use mathlib.Core.List.{List}
+use lib.ListN.{length}
+use Rattle.columns.specs.Bound.{columnBound}
+use Rattle.columns.specs.Set.{bit, withoutOf}
+use Rattle.planes.specs.Bits.{planeBit}
+
+-- a plane of m columns is wide enough for sets of n columns, and no wider than the bound unless they are
+pub record Wide (n m : ℕ) : Type 0 where
+  pub all : n ≤ m
+  pub word : 5 ≤ m
+  pub few : n ≤ columnBound → m ≤ columnBound
+
+-- a plane has room for the sets of m columns, which fill at least one word
+pub record RoomFor (m : ℕ) (plane : List ℕ) : Type 0 where
+  pub word : 5 ≤ m
+  pub few : m ≤ columnBound
+  pub fits : 2 ^ (m - 5) ≤ length plane
+
+-- the wanted sets are marked too, and no others
+pub record Marked (Wanted : ℕ → Type 0) (before after : List ℕ) : Type 0 where
+  pub marks : (y : ℕ) → (planeBit after y ≡ 1) ↔ ((planeBit before y ≡ 1) ⊎ Wanted y)
+
+-- the mirror of x: the columns of m that are not in it. So x contains y exactly if the mirror of x lies inside the
+-- mirror of y
+abbrev pub mirror : ℕ → ℕ → ℕ
+mirror m x = 2 ^ m - 1 - x
+
+-- x is covered, by a plane with the mirrors of sets and a plane with sets: if a is not in it, it is marked on one of
+-- the two
+abbrev pub CoveredBy : List ℕ → List ℕ → ℕ → ℕ → ℕ → Type 0
+CoveredBy lefts sets m a x = bit x a ≡ 0 → (planeBit lefts (mirror m x) ≡ 1) ⊎ (planeBit sets x ≡ 1)
+
+-- x without any one of its members is not marked on a plane with the mirrors of sets
+abbrev pub Alone : List ℕ → ℕ → ℕ → Type 0
+Alone lefts m x = (k : ℕ) → bit x k ≡ 1 → planeBit lefts (mirror m (withoutOf x k)) ≡ 0

@@ -1,0 +1,70 @@
+-- `soundness::right_sound` meets its contract.
+use native.Mathlib.Omega.{arith}
+use Rattle.planes.proofs.Bits.{seedWords-small}
+use Rattle.evidence.proofs.Sides.{lefts-narrow}
+use Rattle.marks.proofs.Marks.{blank-room}
+use Rattle.soundness.proofs.Laws.{sound-in}
+use borrow.Author.Needs.{needs}
+use Rattle.soundness.proofs.right_sound.Statement.{statement}
+use Rattle.soundness.proofs.right_sound.Tie as tie
+
+right-at-requires : tie.Need-right-at-requires
+right-at-requires c κs = search needs
+
+slice-aggregate-fill : tie.Need-slice-aggregate-fill
+slice-aggregate-fill c = search needs
+
+fill-requires : tie.Need-fill-requires
+fill-requires c κs =
+    let s = c .before .before .before .before in
+    let room = s .pre .3 in
+    (room .word, room .few, omega arith, room .fits, seedWords-small (s .args .m) (room .few))
+
+slice-aggregate-close-lefts : tie.Need-slice-aggregate-close-lefts
+slice-aggregate-close-lefts c = search needs
+
+close-lefts-requires : tie.Need-close-lefts-requires
+close-lefts-requires c κs =
+    let s = c .before .before .before .before .before .before .before in
+    let room = s .pre .3 in
+    (blank-room (s .args .m) (room .word) (room .few), s .pre .4, lefts-narrow _ _ _ _ _ (s .pre .0) (s .pre .5))
+
+slice-aggregate-entries-sound : tie.Need-slice-aggregate-entries-sound
+slice-aggregate-entries-sound c = search needs
+
+slice-aggregate-entries-sound-2 : tie.Need-slice-aggregate-entries-sound-2
+slice-aggregate-entries-sound-2 c = search needs
+
+entries-sound-requires : tie.Need-entries-sound-requires
+entries-sound-requires c κs =
+    let s = c .before .before .before .before .before .before .before .before .before .before .before in
+    let room = s .pre .3 in
+    let small = seedWords-small (s .args .m) (room .few) in (
+      record { word = room .word; few = room .few; fits = omega arith },
+      record { word = room .word; few = room .few; fits = omega arith },
+      s .pre .4,
+      lefts-narrow _ _ _ _ _ (s .pre .0) (s .pre .5),
+    )
+
+returns : tie.Need-returns
+returns c v en eq sown =
+    let s = c .before .before .before .before .before .before .before .before .before .before .before .before in
+    let right = c .before .before .before .before .before .before .before .before .before .right-at in
+    sound-in v _ _ (s .args .n) (s .args .m) (s .args .a) (right .result) _ _ _ (s .pre .0) (s .pre .1) (s .pre .2)
+    (right .ensures) (s .pre .5) (c .before .before .before .before .before .before .before .fill .ensures)
+    (c .before .before .before .before .close-lefts .ensures)
+    (c .entries-sound .ensures) en eq sown
+
+pub right-sound-spec : {M : Type 1} → statement M
+right-sound-spec =
+    tie.close
+    (tie.spec
+    right-at-requires
+    slice-aggregate-fill
+    fill-requires
+    slice-aggregate-close-lefts
+    close-lefts-requires
+    slice-aggregate-entries-sound
+    slice-aggregate-entries-sound-2
+    entries-sound-requires
+    returns)

@@ -1,0 +1,103 @@
+-- `soundness::target_sound` meets its contract.
+use Prim.Native.Nat.{_≤_}
+use mathlib.Core.Path.{sym}
+use native.Mathlib.Omega.{arith}
+use denote.Ref.{now}
+use Rattle.columns.specs.Bound.{columnBound}
+use Rattle.model.specs.Catalogue.{visible}
+use Rattle.model.specs.Target.{view}
+use Rattle.model.proofs.Check.{accepted-visible}
+use Rattle.model.proofs.Climb.{inherited-visible}
+use Rattle.model.proofs.Target.{view-equivalence}
+use Rattle.evidence.proofs.Answers.{says-no, said-yes, said-no, same-answer}
+use Rattle.marks.proofs.Marks.{blank-room, room-kept}
+use Rattle.soundness.proofs.Laws.{not-fitting, fitting, fits-narrow}
+use borrow.Author.Needs.{needs}
+use Rattle.soundness.proofs.target_sound.Statement.{statement}
+use Rattle.soundness.proofs.target_sound.Tie as tie
+
+-- a target has no more visible columns than the bound
+few : (s : tie.Start) → visible (now (s .args .cat)) (s .args .target) ≤ columnBound
+few s = accepted-visible (now (s .args .cat)) (s .pre .0) (s .args .target) (s .pre .1 .0)
+
+visible-requires : tie.Need-visible-requires
+visible-requires c κs = search needs
+
+inherited-requires : tie.Need-inherited-requires
+inherited-requires c κs = search needs
+
+entries-fit-requires : tie.Need-entries-fit-requires
+entries-fit-requires c κs =
+    let s = c .before .before .before .before in
+    (omega (arith, few s, c .before .visible .ensures), s .pre .1 .1)
+
+returns : tie.Need-returns
+returns c =
+    let s = c .before .before .before .before .before .before in
+    says-no (not-fitting (now (s .args .cat)) (s .args .target) _ _ _ (c .before .before .before .visible .ensures)
+    (c .before .before .inherited .ensures) (said-no (c .before .entries-fit .ensures) (c .if1 .taken)))
+
+wide-requires : tie.Need-wide-requires
+wide-requires c κs = search needs
+
+slice-aggregate-sow : tie.Need-slice-aggregate-sow
+slice-aggregate-sow c = search needs
+
+sow-requires : tie.Need-sow-requires
+sow-requires c κs =
+    let s = c .before .before .before .before .before .before .before .before in
+    let m = c .before .wide .ensures in
+    let n = c .before .before .before .before .before .visible .ensures in
+    (s .pre .0, (s .pre .1 .0, (n, blank-room _ (m .word) (m .few (omega (arith, few s, n))))))
+
+slice-aggregate-rights-sound : tie.Need-slice-aggregate-rights-sound
+slice-aggregate-rights-sound c = search needs
+
+rights-sound-requires : tie.Need-rights-sound-requires
+rights-sound-requires c κs =
+    let s = c .before .before .before .before .before .before .before .before .before .before .before in
+    let m = c .before .before .before .before .wide .ensures in
+    let fit = c .before .before .before .before .before in
+    let n = fit .before .before .before .visible in
+    let b : n .result ≤ columnBound = omega (arith, few s, n .ensures) in (
+      m .all,
+      b,
+      omega (
+        arith,
+        inherited-visible (now (s .args .cat)) (s .args .target),
+        n .ensures,
+        fit .before .before .inherited .ensures,
+      ),
+      room-kept (c .before .before .sow .ensures .0) (blank-room _ (m .word) (m .few b)),
+      s .pre .1 .1,
+      fits-narrow (said-yes (fit .before .entries-fit .ensures) (fit .if1 .left)),
+    )
+
+returns-2 : tie.Need-returns-2
+returns-2 c =
+    let s = c .before .before .before .before .before .before .before .before .before .before .before .before in
+    let cat = now (s .args .cat) in
+    let fit = c .before .before .before .before .before .before in
+    let n = fit .before .before .before .visible .ensures in
+    let low = fit .before .before .inherited .ensures in
+    let by = fitting cat (s .args .target) _ _ _ n low (s .pre .1 .0) (omega (arith, few s, n))
+    (omega (arith, inherited-visible cat (s .args .target), n, low))
+    (said-yes (fit .before .entries-fit .ensures) (fit .if1 .left)) in
+    same-answer (by .0) (by .1)
+    (c .rights-sound .ensures (view cat (s .args .target)) (sym n) (view-equivalence cat (s .args .target))
+    (c .before .before .before .sow .ensures .1))
+
+pub target-sound-spec : {M : Type 1} → statement M
+target-sound-spec =
+    tie.close
+    (tie.spec
+    visible-requires
+    inherited-requires
+    entries-fit-requires
+    returns
+    wide-requires
+    slice-aggregate-sow
+    sow-requires
+    slice-aggregate-rights-sound
+    rights-sound-requires
+    returns-2)
