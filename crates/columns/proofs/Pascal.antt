@@ -10,7 +10,7 @@ use lib.ListN.{length, length-append, length-map}
 use lib.Count.{ones}
 use lib.Pow.{pow-pos}
 use Rattle.columns.specs.Set.{sizeOf}
-use Rattle.columns.specs.Order.{ofSizeFrom, ofSize, bySizeFrom, inOrder, count}
+use Rattle.columns.specs.Order.{ofSizeFrom, ofSize, bySizeFrom, inOrder}
 use Rattle.columns.proofs.Test.{ifEq-yes, ifEq-no}
 use Rattle.columns.proofs.Size.{size-top}
 
@@ -93,91 +93,81 @@ ofSize-suc-zero n =
     ∙ ap (λ (l : List ℕ). ofSize n 0 ++ l) (from-none n (2 ^ n) 0 (le-of-eq (zero-add (2 ^ n))))
     ∙ append-nil (ofSize n 0)
 
-pub ofSize-zero-zero : ofSize 0 0 ≡ 0 ∷ []
+ofSize-zero-zero : ofSize 0 0 ≡ 0 ∷ []
 unfolding ofSize ofSizeFrom ones
 ofSize-zero-zero = from-yes 0 0 0 refl
 
-pub ofSize-zero-suc : (k : ℕ) → ofSize 0 (suc k) ≡ []
+ofSize-zero-suc : (k : ℕ) → ofSize 0 (suc k) ≡ []
 unfolding ofSize ofSizeFrom ones
 ofSize-zero-suc k = from-no (suc k) 0 0 (λ e. suc-ne-zero k (sym e))
 
--- how many there are
-pub length-ofSize : (n k : ℕ) → length (ofSize n k) ≡ count n k
-unfolding count
-length-ofSize zero zero = ap length ofSize-zero-zero
-length-ofSize zero (suc k) = ap length (ofSize-zero-suc k)
-length-ofSize (suc n) zero = ap length (ofSize-suc-zero n) ∙ length-ofSize n zero ∙ count-one n
-  where
-    count-one : (m : ℕ) → count m 0 ≡ 1
-    count-one zero = refl
-    count-one (suc m) = refl
-length-ofSize (suc n) (suc k) =
-    let a = length-ofSize n (suc k) in
-    let b = length-ofSize n k in
-    ap length (ofSize-suc-suc n k) ∙ simp (length-append, length-map) (rw (a, b))
+-- how many there are: Pascal's rule, and what stands at its edges
+pub length-suc-suc : (n k : ℕ) → length (ofSize (suc n) (suc k)) ≡ length (ofSize n (suc k)) + length (ofSize n k)
+length-suc-suc n k = ap length (ofSize-suc-suc n k) ∙ simp (length-append, length-map) refl
 
-pub count-none : (n : ℕ) → count n 0 ≡ 1
-unfolding count
-count-none zero = refl
-count-none (suc n) = refl
+pub length-none : (n : ℕ) → length (ofSize n 0) ≡ 1
+length-none zero = ap length ofSize-zero-zero
+length-none (suc n) = ap length (ofSize-suc-zero n) ∙ length-none n
 
-pub count-over : (n k : ℕ) → n < k → count n k ≡ 0
-unfolding count
-count-over zero zero h = absurd (omega arith)
-count-over zero (suc k) h = refl
-count-over (suc n) zero h = absurd (omega arith)
-count-over (suc n) (suc k) h = omega (arith, count-over n (suc k) (omega arith), count-over n k (omega arith))
+pub length-over : (n k : ℕ) → n < k → length (ofSize n k) ≡ 0
+length-over n zero h = absurd (omega arith)
+length-over zero (suc k) h = ap length (ofSize-zero-suc k)
+length-over (suc n) (suc k) h =
+    omega (arith, length-suc-suc n k, length-over n (suc k) (omega arith), length-over n k (omega arith))
 
-pub count-le : (n k : ℕ) → count n k ≤ 2 ^ n
-unfolding count
-count-le zero zero = omega arith
-count-le zero (suc k) = omega arith
-count-le (suc n) zero = omega (arith, pow-pos (suc n))
-count-le (suc n) (suc k) = omega (arith, count-le n (suc k), count-le n k, two-pow-succ n)
+pub length-le : (n k : ℕ) → length (ofSize n k) ≤ 2 ^ n
+length-le n zero = omega (arith, length-none n, pow-pos n)
+length-le zero (suc k) = omega (arith, length-over 0 (suc k) (omega arith))
+length-le (suc n) (suc k) = omega (arith, length-suc-suc n k, length-le n (suc k), length-le n k, two-pow-succ n)
 
--- the counts of m sizes from k on, added up
-unfoldable pub countsFrom : ℕ → ℕ → ℕ → ℕ
-countsFrom n zero k = 0
-countsFrom n (suc m) k = count n k + countsFrom n m (suc k)
+-- how many sets of n columns have k members or k + 1, and on for m sizes
+unfoldable pub sizesFrom : ℕ → ℕ → ℕ → ℕ
+sizesFrom n zero k = 0
+sizesFrom n (suc m) k = length (ofSize n k) + sizesFrom n m (suc k)
 
-counts-snoc : (n m k : ℕ) → countsFrom n (suc m) k ≡ countsFrom n m k + count n (k + m)
-unfolding countsFrom
-counts-snoc n zero k = rw (add-zero k) (omega arith)
-counts-snoc n (suc m) k =
+sizes-snoc : (n m k : ℕ) → sizesFrom n (suc m) k ≡ sizesFrom n m k + length (ofSize n (k + m))
+unfolding sizesFrom
+sizes-snoc n zero k = rw (add-zero k) (omega arith)
+sizes-snoc n (suc m) k =
     let s : suc k + m ≡ k + suc m = omega arith in
-    let e = ap (count n) s in
-    omega (arith, counts-snoc n m (suc k))
+    let e = ap (λ (j : ℕ). length (ofSize n j)) s in
+    omega (arith, sizes-snoc n m (suc k))
 
-counts-pascal : (n m k : ℕ) → countsFrom (suc n) m (suc k) ≡ countsFrom n m (suc k) + countsFrom n m k
-unfolding countsFrom count
-counts-pascal n zero k = refl
-counts-pascal n (suc m) k = omega (arith, counts-pascal n m (suc k))
+sizes-pascal : (n m k : ℕ) → sizesFrom (suc n) m (suc k) ≡ sizesFrom n m (suc k) + sizesFrom n m k
+unfolding sizesFrom
+sizes-pascal n zero k = refl
+sizes-pascal n (suc m) k = omega (arith, length-suc-suc n k, sizes-pascal n m (suc k))
 
--- the counts of all sizes add up to 2^n
-pub counts-sum : (n : ℕ) → countsFrom n (suc n) 0 ≡ 2 ^ n
-unfolding countsFrom count
-counts-sum zero = refl
-counts-sum (suc n) =
-    let z = ap (count n) (zero-add (suc n)) in
+sizes-over : (n m k : ℕ) → n < k → sizesFrom n m k ≡ 0
+unfolding sizesFrom
+sizes-over n zero k h = refl
+sizes-over n (suc m) k h = omega (arith, length-over n k h, sizes-over n m (suc k) (omega arith))
+
+-- n columns have 2^n sets of at most m members, for every m from n on
+pub sizes-sum : (n m : ℕ) → n ≤ m → sizesFrom n (suc m) 0 ≡ 2 ^ n
+unfolding sizesFrom
+sizes-sum zero m h = omega (arith, length-none 0, sizes-over 0 m 1 (omega arith))
+sizes-sum (suc n) m h =
+    let z = ap (λ (j : ℕ). length (ofSize n j)) (zero-add m) in
     omega (
       arith,
-      counts-pascal n (suc n) 0,
-      counts-snoc n (suc n) 0,
-      count-none n,
-      count-over n (suc n) (omega arith),
-      counts-sum n,
+      sizes-pascal n m 0,
+      sizes-snoc n m 0,
+      length-none n,
+      length-none (suc n),
+      length-over n m (omega arith),
+      sizes-sum n m (omega arith),
       two-pow-succ n,
     )
 
-pub length-bySizeFrom : (n m k : ℕ) → length (bySizeFrom n m k) ≡ countsFrom n m k
-unfolding bySizeFrom countsFrom
+length-bySizeFrom : (n m k : ℕ) → length (bySizeFrom n m k) ≡ sizesFrom n m k
+unfolding bySizeFrom sizesFrom
 length-bySizeFrom n zero k = refl
 length-bySizeFrom n (suc m) k =
     let i = length-bySizeFrom n m (suc k) in
-    let l = length-ofSize n k in
-    length-append (ofSize n k) (bySizeFrom n m (suc k)) ∙ rw (i, l)
+    length-append (ofSize n k) (bySizeFrom n m (suc k)) ∙ rw i refl
 
 -- 2^n sets of n columns
 pub length-inOrder : (n : ℕ) → length (inOrder n) ≡ 2 ^ n
 unfolding inOrder
-length-inOrder n = length-bySizeFrom n (suc n) 0 ∙ counts-sum n
+length-inOrder n = length-bySizeFrom n (suc n) 0 ∙ sizes-sum n n (omega arith)

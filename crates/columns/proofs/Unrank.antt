@@ -1,16 +1,18 @@
--- The set at an index: in the sets of one size by the Pascal recursion, and in the whole order by passing sizes.
+-- The set at an index: in the sets of one size from the last column down, and in the whole order by passing sizes.
 use Prim.Native.Nat.{ℕ, zero, suc, _+_, _-_, _^_, _≤_, _<_}
 use mathlib.Core.Path.{_≡_, refl, sym, ap, _∙_, subst, subst₂}
 use mathlib.Core.List.{List, [], _∷_, _++_, map}
-use native.Mathlib.Nat.{sub-zero, suc-sub-suc}
+use native.Mathlib.Decide.{decLt}
+use native.Mathlib.Nat.{zero-add, sub-zero, suc-sub-suc}
 use native.Mathlib.Numerals.{add-one}
 use native.Mathlib.Omega.{arith}
 use lib.ListN.{length, getD, List·getD-append}
 use lib.Seq.{getD-append-add}
 use Rattle.columns.specs.Set.{setOf}
-use Rattle.columns.specs.Order.{ofSize, bySizeFrom, inOrder, nth, count}
+use Rattle.columns.specs.Order.{ofSize, bySizeFrom, inOrder, nth}
 use Rattle.columns.specs.declared.SetOrNone.the-variants.{Set, Nothing}
-use Rattle.columns.proofs.Pascal.{ofSize-suc-suc, ofSize-suc-zero, ofSize-zero-zero, length-ofSize, count-none}
+use Rattle.columns.proofs.Pascal.{ofSize-suc-suc, ofSize-suc-zero, length-suc-suc, length-none}
+use Rattle.columns.proofs.Pascal.{length-over}
 use Rattle.columns.proofs.Lists.{nth-getD, nth-append-left, getD-mem}
 use Rattle.columns.proofs.Order.{mem-ofSize}
 
@@ -19,61 +21,102 @@ getD-map f [] i h = absurd (omega arith)
 getD-map f (x ∷ xs) zero h = refl
 getD-map f (x ∷ xs) (suc i) h = getD-map f xs i (omega arith)
 
--- of no column there is the empty set
-pub at-none : (n k i : ℕ) → n ≡ 0 → i < count n k → getD (ofSize n k) i 0 ≡ 0
-unfolding count
-at-none zero zero i z h =
-    let e : i ≡ 0 = omega arith in
-    ap (λ (j : ℕ). getD (ofSize 0 0) j 0) e ∙ ap (λ (l : List ℕ). getD l 0 0) ofSize-zero-zero
-at-none zero (suc k) i z h = absurd (omega arith)
-at-none (suc n) k i z h = absurd (omega arith)
-
--- first stand those without the last column
-without-last : (n k i : ℕ) → i < count n k → getD (ofSize (suc n) k) i 0 ≡ getD (ofSize n k) i 0
+-- first stand the sets without the last column
+without-last : (n k i : ℕ) → i < length (ofSize n k) → getD (ofSize (suc n) k) i 0 ≡ getD (ofSize n k) i 0
 without-last n zero i h = ap (λ (l : List ℕ). getD l i 0) (ofSize-suc-zero n)
 without-last n (suc k) i h =
     ap (λ (l : List ℕ). getD l i 0) (ofSize-suc-suc n k)
-    ∙ List·getD-append (ofSize n (suc k)) (map (λ (x : ℕ). x + 2 ^ n) (ofSize n k)) 0 i
-    (omega (arith, length-ofSize n (suc k)))
-
-pub at-without : (n k i : ℕ) → (n ≡ 0 → ⊥) → i < count (n - 1) k
-    → getD (ofSize n k) i 0 ≡ getD (ofSize (n - 1) k) i 0
-at-without n k i z h =
-    let e : suc (n - 1) ≡ n = omega arith in
-    ap (λ (j : ℕ). getD (ofSize j k) i 0) (sym e) ∙ without-last (n - 1) k i h
+    ∙ List·getD-append (ofSize n (suc k)) (map (λ (x : ℕ). x + 2 ^ n) (ofSize n k)) 0 i h
 
 -- then those with it
-pub record With (n k i : ℕ) : Type 0 where
-  pub some : 0 < k
-  pub inside : i - count (n - 1) k < count (n - 1) (k - 1)
-  pub same : getD (ofSize n k) i 0 ≡ getD (ofSize (n - 1) (k - 1)) (i - count (n - 1) k) 0 + 2 ^ (n - 1)
+record With (n k i : ℕ) : Type 0 where
+  some : 0 < k
+  inside : i - length (ofSize n k) < length (ofSize n (k - 1))
+  same : getD (ofSize (suc n) k) i 0 ≡ getD (ofSize n (k - 1)) (i - length (ofSize n k)) 0 + 2 ^ n
 
-with-last : (n k i : ℕ) → count n (suc k) ≤ i → i - count n (suc k) < count n k
-    → getD (ofSize (suc n) (suc k)) i 0 ≡ getD (ofSize n k) (i - count n (suc k)) 0 + 2 ^ n
-with-last n k i l u =
-    let p : i ≡ length (ofSize n (suc k)) + (i - count n (suc k)) = omega (arith, length-ofSize n (suc k)) in
-    ap (λ (m : List ℕ). getD m i 0) (ofSize-suc-suc n k)
-    ∙ ap (λ (j : ℕ). getD (ofSize n (suc k) ++ map (λ (x : ℕ). x + 2 ^ n) (ofSize n k)) j 0) p
-    ∙ getD-append-add (ofSize n (suc k)) (map (λ (x : ℕ). x + 2 ^ n) (ofSize n k)) (i - count n (suc k)) 0
-    ∙ getD-map (λ (x : ℕ). x + 2 ^ n) (ofSize n k) (i - count n (suc k)) (omega (arith, length-ofSize n k))
-
-pub at-with : (n k i : ℕ) → (n ≡ 0 → ⊥) → count (n - 1) k ≤ i → i < count n k → With n k i
-unfolding count
-at-with n zero i z l h = absurd (omega (arith, count-none n, count-none (n - 1)))
-at-with n (suc k) i z l h =
-    let e : suc (n - 1) ≡ n = omega arith in
-    let f : k ≡ suc k - 1 = omega arith in
-    let g : i < count (suc (n - 1)) (suc k) = subst (λ (m : ℕ). i < count m (suc k)) (sym e) h in
-    let u : i - count (n - 1) (suc k) < count (n - 1) k = omega arith in record {
+with-last : (n k i : ℕ) → length (ofSize n k) ≤ i → i < length (ofSize (suc n) k) → With n k i
+with-last n zero i l h = absurd (omega (arith, length-none n, length-none (suc n)))
+with-last n (suc k) i l h =
+    let e : k ≡ suc k - 1 = omega arith in
+    let u : i - length (ofSize n (suc k)) < length (ofSize n k) = omega (arith, length-suc-suc n k) in
+    let p : i ≡ length (ofSize n (suc k)) + (i - length (ofSize n (suc k))) = omega arith in record {
       some = omega arith;
-      inside = subst (λ (j : ℕ). i - count (n - 1) (suc k) < count (n - 1) j) f u;
+      inside = subst (λ (j : ℕ). i - length (ofSize n (suc k)) < length (ofSize n j)) e u;
       same =
-          ap (λ (m : ℕ). getD (ofSize m (suc k)) i 0) (sym e) ∙ with-last (n - 1) k i l u
-          ∙ ap (λ (j : ℕ). getD (ofSize (n - 1) j) (i - count (n - 1) (suc k)) 0 + 2 ^ (n - 1)) f;
+          ap (λ (m : List ℕ). getD m i 0) (ofSize-suc-suc n k)
+          ∙ ap (λ (j : ℕ). getD (ofSize n (suc k) ++ map (λ (x : ℕ). x + 2 ^ n) (ofSize n k)) j 0) p
+          ∙ getD-append-add (ofSize n (suc k)) (map (λ (x : ℕ). x + 2 ^ n) (ofSize n k))
+          (i - length (ofSize n (suc k))) 0
+          ∙ getD-map (λ (x : ℕ). x + 2 ^ n) (ofSize n k) (i - length (ofSize n (suc k))) u
+          ∙ ap (λ (j : ℕ). getD (ofSize n j) (i - length (ofSize n (suc k))) 0 + 2 ^ n) e;
     }
 
-pub at-lt : (n k i : ℕ) → i < count n k → getD (ofSize n k) i 0 < 2 ^ n
-at-lt n k i h = mem-ofSize n k _ (getD-mem (ofSize n k) i (omega (arith, length-ofSize n k))) .0
+at-lt : (n k i : ℕ) → i < length (ofSize n k) → getD (ofSize n k) i 0 < 2 ^ n
+at-lt n k i h = mem-ofSize n k _ (getD-mem (ofSize n k) i h) .0
+
+-- on the way down from the last column: what is found of the set sought, and what stands at `left` among the sets of
+-- m columns with `size` members, make up the set
+pub record Sought (n k index m size left set : ℕ) : Type 0 where
+  pub inside : left < length (ofSize m size)
+  pub same : set + getD (ofSize m size) left 0 ≡ getD (ofSize n k) index 0
+
+pub sought-begun : (n k index : ℕ) → index < length (ofSize n k) → Sought n k index n k index 0
+sought-begun n k index h = record { inside = h; same = zero-add (getD (ofSize n k) index 0) }
+
+-- no set has more members than there are columns
+pub sought-size : (n k index m size left set : ℕ) → Sought n k index m size left set → size ≤ m
+sought-size n k index m size left set s =
+    elim (decLt m size) [
+      | yes h ↦ absurd (omega (arith, s .inside, length-over m size h))
+      | no h ↦ omega arith
+    ]
+
+-- one column less: the set does not have it
+pub sought-without : (n k index m size left set : ℕ) → 0 < m → left < length (ofSize (m - 1) size)
+    → Sought n k index m size left set → Sought n k index (m - 1) size left set
+sought-without n k index m size left set p h s =
+    let e : suc (m - 1) ≡ m = omega arith in record {
+      inside = h;
+      same =
+          ap (λ (x : ℕ). set + x) (sym (without-last (m - 1) size left h))
+          ∙ ap (λ (j : ℕ). set + getD (ofSize j size) left 0) e ∙ s .same;
+    }
+
+-- or the set has it: c sets are passed
+pub record Taken (n k index m size left set c : ℕ) : Type 0 where
+  pub some : 0 < size
+  pub small : set + 2 ^ (m - 1) < 2 ^ n
+  pub rest : Sought n k index (m - 1) (size - 1) (left - c) (set + 2 ^ (m - 1))
+
+pub sought-with : (n k index m size left set c : ℕ) → index < length (ofSize n k) → 0 < m
+    → c ≡ length (ofSize (m - 1) size) → c ≤ left → Sought n k index m size left set
+    → Taken n k index m size left set c
+sought-with n k index m size left set c i p e h s = record {
+  some = w .some;
+  small = omega (arith, whole, at-lt n k index i);
+  rest = record { inside = omega (arith, e, w .inside); same = whole };
+}
+  where
+    d : suc (m - 1) ≡ m
+    d = omega arith
+
+    w : With (m - 1) size left
+    w =
+        with-last (m - 1) size left (omega arith)
+        (subst (λ (j : ℕ). left < length (ofSize j size)) (sym d) (s .inside))
+
+    whole : set + 2 ^ (m - 1) + getD (ofSize (m - 1) (size - 1)) (left - c) 0 ≡ getD (ofSize n k) index 0
+    whole =
+        let f = ap (λ (j : ℕ). getD (ofSize (m - 1) (size - 1)) (left - j) 0) e in
+        let g = ap (λ (j : ℕ). getD (ofSize j size) left 0) d in
+        omega (arith, s .same, w .same, f, g)
+
+-- of no column there is the empty set
+pub sought-found : (n k index m size left set : ℕ) → m ≤ 0 → Sought n k index m size left set
+    → set ≡ getD (ofSize n k) index 0
+sought-found n k index zero size left set h s =
+    omega (arith, s .same, at-lt 0 size left (s .inside))
+sought-found n k index (suc m) size left set h s = absurd (omega arith)
 
 -- the sizes below k are passed, and what stands at `left` in the rest stands at the index in the whole
 nth-append-right : (l r : List ℕ) (i : ℕ) → length l ≤ i → nth (l ++ r) i ≡ nth r (i - length l)
@@ -102,29 +145,27 @@ rest n index k left h p =
     let e : suc n - k ≡ suc (n - k) = omega arith in
     p .same ∙ ap (λ (m : ℕ). nth (bySizeFrom n m k) left) e
 
-pass : (n index k left : ℕ) → k ≤ n → count n k ≤ left → SizesPassed n index k left
-    → SizesPassed n index (suc k) (left - count n k)
+pass : (n index k left : ℕ) → k ≤ n → length (ofSize n k) ≤ left → SizesPassed n index k left
+    → SizesPassed n index (suc k) (left - length (ofSize n k))
 pass n index k left h l p = record {
   inside = omega arith;
   same =
       rest n index k left h p
-      ∙ nth-append-right (ofSize n k) (bySizeFrom n (n - k) (suc k)) left (omega (arith, length-ofSize n k))
-      ∙ ap (λ (c : ℕ). nth (bySizeFrom n (n - k) (suc k)) (left - c)) (length-ofSize n k)
-      ∙ ap (λ (m : ℕ). nth (bySizeFrom n m (suc k)) (left - count n k)) (sym (suc-sub-suc n k));
+      ∙ nth-append-right (ofSize n k) (bySizeFrom n (n - k) (suc k)) left l
+      ∙ ap (λ (m : ℕ). nth (bySizeFrom n m (suc k)) (left - length (ofSize n k))) (sym (suc-sub-suc n k));
 }
 
-pub passed-more : (n index k left c : ℕ) → k ≤ n → c ≡ count n k → c ≤ left → SizesPassed n index k left
+pub passed-more : (n index k left c : ℕ) → k ≤ n → c ≡ length (ofSize n k) → c ≤ left → SizesPassed n index k left
     → SizesPassed n index (k + 1) (left - c)
 passed-more n index k left c h e l p =
     subst₂ (λ (i j : ℕ). SizesPassed n index i (left - j)) (sym (add-one k)) (sym e)
     (pass n index k left h (omega arith) p)
 
-pub passed-found : (n index k left : ℕ) → k ≤ n → left < count n k → SizesPassed n index k left
+pub passed-found : (n index k left : ℕ) → k ≤ n → left < length (ofSize n k) → SizesPassed n index k left
     → nth (inOrder n) index ≡ Set (setOf (getD (ofSize n k) left 0))
 passed-found n index k left h l p =
-    let u : left < length (ofSize n k) = omega (arith, length-ofSize n k) in
-    rest n index k left h p ∙ nth-append-left (ofSize n k) (bySizeFrom n (n - k) (suc k)) left u
-    ∙ nth-getD (ofSize n k) left u
+    rest n index k left h p ∙ nth-append-left (ofSize n k) (bySizeFrom n (n - k) (suc k)) left l
+    ∙ nth-getD (ofSize n k) left l
 
 pub passed-all : (n index k left : ℕ) → n < k → SizesPassed n index k left → nth (inOrder n) index ≡ Nothing
 unfolding bySizeFrom nth

@@ -59,10 +59,3 @@ nth (y ∷ ys) (suc i) = nth ys i
 
 unfoldable pub atOf : ℕ → ℕ → SetOrNone
 atOf n i = ifLe n columnBound (nth (inOrder n) i) Nothing
-
--- how many sets of n columns have k members, by additions alone: those without the last column, and those with it
-unfoldable pub count : ℕ → ℕ → ℕ
-count zero zero = 1
-count zero (suc k) = 0
-count (suc n) zero = 1
-count (suc n) (suc k) = count n (suc k) + count n k

@@ -1,23 +1,23 @@
 // Sets of columns, by value, and their listing order: by size, then by number. Every method goes by the members
 // alone: bits at or above the bound count for nothing.
 // Relies on `bits` for powers of two. Called by every crate that speaks of left sides.
-ghost use Prim.Native.Nat.{ℕ, suc, _≤_, _<_};
+ghost use Prim.Native.Nat.{suc, _≤_, _<_};
 ghost use mathlib.Core.Path.{_≡_};
 ghost use lib.ListN.{getD, length};
 ghost use Rattle.columns.specs.Bound.{columnBound};
 ghost use Rattle.columns.specs.Set.{bit, memberOf, membersOf, memberCount, subsetOf, withoutOf, fullOf};
-ghost use Rattle.columns.specs.Order.{precedesOf, nextOf, atOf, ofSize, count};
-ghost use Rattle.columns.specs.Counts.{Counts};
+ghost use Rattle.columns.specs.Order.{precedesOf, nextOf, atOf, ofSize};
+ghost use Rattle.columns.specs.Counts.{Counts, CountsUpTo};
 use bits::power;
 
 // The bound on visible columns; `columnBound` of specs/Bound.antt is the same number in the definitions.
 pub const COLUMN_BOUND: u32 = 16;
 
-// How many sizes a set can have.
+// How many sizes a set can have, and how many numbers of columns there are: from 0 to the bound.
 const SIZES: usize = COLUMN_BOUND as usize + 1;
 
-// How many sets there are: one more than the number of the largest.
-const SETS: u32 = 1 << COLUMN_BOUND;
+// All columns below the bound, as a number.
+const COLUMNS: u32 = (1 << COLUMN_BOUND) - 1;
 
 // Column k is a member if k is below the bound and bit k is 1.
 pub struct ColumnSet {
@@ -35,14 +35,14 @@ fn bit(x: u32, k: u32) -> u32
     requires { ⌜ k < 32 ⌝ }
     ensures { λ r. ⌜ r ≡ bit x k ⌝ }
 {
-    (x >> k) % 2
+    (x >> k) & 1
 }
 
 // The members of x alone, without the bits at or above the bound.
 fn members(x: u32) -> u32
     ensures { λ r. ⌜ r ≡ membersOf x ⌝ }
 {
-    x % SETS
+    x & COLUMNS
 }
 
 impl ColumnSet {
@@ -166,13 +166,15 @@ impl ColumnSet {
         if COLUMN_BOUND < n {
             return SetOrNone::Nothing;
         }
+        let mut rows = [[0; SIZES]; SIZES];
+        count_sets(&mut rows, n);
         let mut k = 0;
         let mut left = index;
         while k <= n {
-            let c = count(n, k);
+            let c = rows[n as usize][k as usize];
             if left < c {
                 return SetOrNone::Set(ColumnSet {
-                    bits: of_size_at(n, k, left),
+                    bits: of_size_at(&rows, n, k, left),
                 });
             }
             left -= c;
@@ -182,47 +184,50 @@ impl ColumnSet {
     }
 }
 
-// The set at an index of the sets of n columns with k members: first stand those without the last column, then those
-// with it.
-fn of_size_at(n: u32, k: u32, index: u32) -> u32
-    requires { ⌜ (n ≤ columnBound) × (index < count n k) ⌝ }
+// The set at an index of the sets of n columns with k members, by the rows of Pascal's numbers. From the last column
+// down: first stand the sets without it, then those with it.
+fn of_size_at(rows: &[[u32; SIZES]; SIZES], n: u32, k: u32, index: u32) -> u32
+    requires { ⌜ (n ≤ columnBound) × CountsUpTo n (now rows) × (index < length (ofSize n k)) ⌝ }
     ensures { λ r. ⌜ r ≡ getD (ofSize n k) index 0 ⌝ }
 {
-    if n == 0 {
-        return 0;
+    let mut m = n;
+    let mut size = k;
+    let mut left = index;
+    let mut set = 0;
+    while 0 < m {
+        m -= 1;
+        let c = rows[m as usize][size as usize];
+        if c <= left {
+            left -= c;
+            size -= 1;
+            set += power(m);
+        }
     }
-    let m = n - 1;
-    let c = count(m, k);
-    if index < c {
-        return of_size_at(m, k, index);
-    }
-    of_size_at(m, k - 1, index - c) + power(m)
+    set
 }
 
-// How many sets of n columns have k members.
-fn count(n: u32, k: u32) -> u32
-    requires { ⌜ n ≤ columnBound ⌝ }
-    ensures { λ r. ⌜ r ≡ count n k ⌝ }
+// Puts into the rows how many sets there are of each size: Pascal's numbers, a row for each number of columns up to n.
+fn count_sets(rows: &mut [[u32; SIZES]; SIZES], n: u32)
+    requires { ⌜ (n ≤ columnBound) × (length (now rows) ≡ suc columnBound) ⌝ }
+    ensures { λ _. ⌜ CountsUpTo n (now (rows .exit)) ⌝ }
 {
-    if n < k {
-        return 0;
+    let none = of_no_column();
+    rows[0] = none;
+    let mut i = 0;
+    while i < n {
+        let row = rows[i as usize];
+        let next = with_a_column(row, i);
+        i += 1;
+        rows[i as usize] = next;
     }
-    let row = counts(n);
-    row[k as usize]
 }
 
-// How many sets of n columns there are of each size: a row of Pascal's numbers.
-fn counts(n: u32) -> [u32; SIZES]
-    requires { ⌜ n ≤ columnBound ⌝ }
-    ensures { λ r. ⌜ Counts n r ⌝ }
+// The row of no column: there is the empty set alone.
+fn of_no_column() -> [u32; SIZES]
+    ensures { λ r. ⌜ Counts 0 r ⌝ }
 {
     let mut row = [0; SIZES];
     row[0] = 1;
-    let mut i = 0;
-    while i < n {
-        row = with_a_column(row, i);
-        i += 1;
-    }
     row
 }
 

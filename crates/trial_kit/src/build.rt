@@ -1,5 +1,6 @@
 // Catalogues of many columns, rows or tables, written into lent bytes. Each function answers the position behind what
 // it wrote; what does not fit is left out.
+use columns::ColumnSet;
 
 // One byte at a position.
 fn put(b: &mut [u8], at: usize, x: u8) -> usize {
@@ -72,6 +73,43 @@ pub fn flat(b: &mut [u8], n: u32, r: u32) -> usize {
 // Overwrites the code in the first column of a row of such a table, of 16 columns.
 pub fn recode(b: &mut [u8], row: u32, code: u32) {
     put4(b, 8 + 66 * row as usize, code);
+}
+
+// A row of n columns, with the code 0 in the members of a set and no code in the others.
+fn marked(b: &mut [u8], at: usize, n: u32, set: ColumnSet) -> usize {
+    let mut next = put2(b, at, 65535);
+    let mut k = 0;
+    while k < n {
+        let code = if set.member(k) { 0 } else { 4294967295 };
+        next = put4(b, next, code);
+        k += 1;
+    }
+    next
+}
+
+// Such a row for the set without column k, if that is a member.
+fn spared(b: &mut [u8], at: usize, n: u32, set: ColumnSet, k: u32) -> usize {
+    if set.member(k) {
+        return marked(b, at, n, set.without(k));
+    }
+    at
+}
+
+// One table of n columns, in which a set has entries: a row with codes in the set alone, and for each member one with
+// codes in the others alone. The set is a key; with a member less it is none, and gives no column that the set lacks.
+pub fn keyed(b: &mut [u8], n: u32, set: ColumnSet) -> usize {
+    let mut next = put2(b, 0, n);
+    next = put2(b, next, 65535);
+    next = put2(b, next, set.size() % 65536 + 1);
+    next = marked(b, next, n, set);
+    let mut k = 0;
+    while k < n {
+        next = spared(b, next, n, set, k);
+        k += 1;
+    }
+    let end = next;
+    next = put4(b, next, 0);
+    finish(b, next, 1, end)
 }
 
 // Two tables of so many columns, each with one row, the second under the first.

@@ -4,7 +4,7 @@ use Prim.Native.Nat.{_-_, _^_, _≤_, _<_}
 use native.Mathlib.Omega.{arith}
 use lib.Pow.{pow-mono}
 use Rattle.columns.specs.Bound.{columnBound}
-use Rattle.columns.proofs.Pascal.{count-le}
+use Rattle.columns.proofs.Pascal.{length-le}
 use Rattle.columns.proofs.Rows.{Between, between-begun, between-more, between-done}
 use Rattle.columns.proofs.with_a_column.Statement.{statement}
 use Rattle.columns.proofs.with_a_column.Tie as tie
@@ -42,7 +42,7 @@ add-row c =
     let k = c .before .loop .k in
     let b = c .before .loop .inv .1 in
     let l : 2 ^ n ≤ 2 ^ columnBound = pow-mono {j = columnBound} (omega arith) in
-    omega (arith, b .old k (omega arith), b .old (k - 1) (omega arith), count-le n k, count-le n (k - 1))
+    omega (arith, b .old k (omega arith), b .old (k - 1) (omega arith), length-le n k, length-le n (k - 1))
 
 mul-row-3 : tie.Need-mul-row-3 Inv-loop μ-loop
 mul-row-3 c = omega (arith, c .before .loop .inv .1 .inside)
@@ -60,7 +60,7 @@ loop-again : tie.Need-loop-again Inv-loop μ-loop
 loop-again c = (c .before .loop .inv .0, between-more _ _ _ (c .loop-test .taken) (c .before .loop .inv .1))
 
 returns : tie.Need-returns Inv-loop μ-loop
-returns c = between-done _ _ _ (c .loop-test .left) (c .before .loop .inv .1)
+returns c = between-done _ _ _ (c .before .loop .inv .0) (c .loop-test .left) (c .before .loop .inv .1)
 
 pub with-a-column-spec : {M : Type 1} → statement M
 with-a-column-spec =
