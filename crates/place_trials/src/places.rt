@@ -1,31 +1,19 @@
 // Listing calls that pass one set, each against the walk from place 0: at every place of 6 columns, and of 16 columns
-// at the first and the last place of each size and at the middle ones. There the catalogue is one in which the set at
-// the place has entries. And at every place of one catalogue of 6 columns.
+// at the first and the last place of each size and at the middle ones; on one catalogue for all places, and on one in
+// which the set at the place has entries.
 use columns::ColumnSet;
 use columns::SetOrNone;
 use listing::Filled;
 use listing::RUN_BOUND;
 use listing::list_filled;
 use model::Entry;
-use model::ListAnswer;
 use trial_kit::end;
+use trial_kit::entries;
 use trial_kit::keyed;
 use trial_kit::print_count;
-use trial_kit::print_refusal;
+use trial_kit::print_listed;
 use trial_kit::print_word;
 use trial_kit::soil;
-
-// How many entries are counted; none by a refusal.
-fn entries(answer: ListAnswer) -> u32 {
-    match answer {
-        ListAnswer::Listed {
-            place: _,
-            passed: _,
-            count,
-        } => count,
-        ListAnswer::Refused(_) => 0,
-    }
-}
 
 // Are two entries the same?
 fn equal(a: Entry, b: Entry) -> bool {
@@ -60,25 +48,8 @@ fn stand_at(run: Filled, count: usize, other: Filled, from: usize) -> bool {
     true
 }
 
-// What the call for one set answered, on the line.
-fn print_answer(answer: ListAnswer) {
-    match answer {
-        ListAnswer::Listed {
-            place,
-            passed,
-            count,
-        } => {
-            print_word(b" listed");
-            print_count(place as u64);
-            print_count(passed as u64);
-            print_count(count as u64);
-        }
-        ListAnswer::Refused(why) => print_refusal(why),
-    }
-}
-
-// The left side of its first entry, and whether its entries are those by which the walk past the set has more than the
-// walk up to it.
+// The left side of the first entry that the call for one set gave, and whether its entries are those by which the walk
+// past the set has more than the walk up to it.
 fn print_same(single: Filled, before: Filled, past: Filled) {
     let first = single.run[0];
     print_word(b" left");
@@ -107,7 +78,7 @@ fn at_place(cat: &[u8], place: u32, work: &mut [u32]) {
     soil(work);
     let past = list_filled(cat, 0, place % 65536 + 1, RUN_BOUND, work);
     let answer = single.answer;
-    print_answer(answer);
+    print_listed(answer);
     print_same(single, before, past);
 }
 
@@ -131,66 +102,53 @@ fn trial(bytes: &mut [u8], n: u32, place: u32, set: ColumnSet, work: &mut [u32])
     end();
 }
 
-// Every place of 6 columns, the set there with entries.
-fn six(bytes: &mut [u8], work: &mut [u32]) {
+// Is the place tried? Every one of fewer than 16 columns. Of 16, those in the middle and the first and the last of each
+// size: the set of the lowest columns, and that of the highest.
+fn is_tried(n: u32, place: u32, set: ColumnSet) -> bool {
+    if n < 16 {
+        return true;
+    }
+    if place == 32767 {
+        return true;
+    }
+    if place == 32768 {
+        return true;
+    }
+    let x = set.bits % 65536;
+    if x & (x + 1) == 0 {
+        return true;
+    }
+    let y = 65535 - x;
+    y & (y + 1) == 0
+}
+
+// A place that is tried, on a catalogue in which its set has entries, and on one for all places: there columns 0, 2 and
+// 4 are a key, and each other column.
+fn visit(bytes: &mut [u8], n: u32, place: u32, set: ColumnSet, work: &mut [u32]) {
+    if is_tried(n, place, set) {
+        trial(bytes, n, place, set, work);
+        trial(bytes, n, place, ColumnSet { bits: 21 }, work);
+    }
+}
+
+// The places of n columns, from set to set.
+fn places(bytes: &mut [u8], n: u32, work: &mut [u32]) {
     let mut set = ColumnSet::EMPTY;
     let mut place: u32 = 0;
-    while place < 64 {
-        trial(bytes, 6, place, set, work);
+    while place < 65536 {
+        visit(bytes, n, place, set, work);
         place += 1;
-        match set.next(6) {
+        match set.next(n) {
             SetOrNone::Set(s) => set = s,
             SetOrNone::Nothing => return,
         }
     }
 }
 
-// Every place of one catalogue of 6 columns, in which columns 0, 2 and 4 are a key, and each of the others.
-fn six_of_one(bytes: &mut [u8], work: &mut [u32]) {
-    let mut place: u32 = 0;
-    while place < 64 {
-        trial(bytes, 6, place, ColumnSet { bits: 21 }, work);
-        place += 1;
-    }
-}
-
-// Does a size end between a set and the next, or is it the middle of 16 columns?
-fn is_tried(place: u32, size: u32, next: u32) -> bool {
-    if place == 32767 {
-        return true;
-    }
-    size != next
-}
-
-// A place of 16 columns and the next one, if they are tried.
-fn neighbours(bytes: &mut [u8], place: u32, set: ColumnSet, next: ColumnSet, work: &mut [u32]) {
-    if is_tried(place, set.size(), next.size()) {
-        trial(bytes, 16, place, set, work);
-        trial(bytes, 16, place % 65536 + 1, next, work);
-    }
-}
-
-// 16 columns: where a size ends and the next begins, and in the middle.
-fn sixteen(bytes: &mut [u8], work: &mut [u32]) {
-    let mut set = ColumnSet::EMPTY;
-    let mut place: u32 = 0;
-    while place < 65535 {
-        match set.next(16) {
-            SetOrNone::Set(s) => {
-                neighbours(bytes, place, set, s, work);
-                set = s;
-            }
-            SetOrNone::Nothing => return,
-        }
-        place += 1;
-    }
-}
-
-// All of them.
+// 6 and 16 columns.
 pub fn trial_places() {
     let mut bytes = [0u8; 2048];
     let mut work = [0u32; 16384];
-    six(&mut bytes, &mut work);
-    six_of_one(&mut bytes, &mut work);
-    sixteen(&mut bytes, &mut work);
+    places(&mut bytes, 6, &mut work);
+    places(&mut bytes, 16, &mut work);
 }

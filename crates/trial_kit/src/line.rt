@@ -1,6 +1,7 @@
 // What a trial prints, word by word on a line.
 use libc::STDOUT_FILENO;
 use model::Entry;
+use model::ListAnswer;
 use model::Refusal;
 
 // A word as it stands.
@@ -23,6 +24,35 @@ pub fn print_refused(why: Refusal) {
 pub fn print_refusal(why: Refusal) {
     print_word(b" ");
     print_refused(why);
+}
+
+// What a listing call answered, behind a space.
+pub fn print_listed(answer: ListAnswer) {
+    match answer {
+        ListAnswer::Listed {
+            place,
+            passed,
+            count,
+        } => {
+            print_word(b" listed");
+            print_count(place as u64);
+            print_count(passed as u64);
+            print_count(count as u64);
+        }
+        ListAnswer::Refused(why) => print_refusal(why),
+    }
+}
+
+// How many entries such an answer counts; none by a refusal.
+pub fn entries(answer: ListAnswer) -> u32 {
+    match answer {
+        ListAnswer::Listed {
+            place: _,
+            passed: _,
+            count,
+        } => count,
+        ListAnswer::Refused(_) => 0,
+    }
 }
 
 // An entry behind a comma and a space.

@@ -6,43 +6,14 @@ use listing::Filled;
 use listing::RUN_BOUND;
 use listing::list_filled;
 use model::Entry;
-use model::ListAnswer;
 use trial_kit::end;
+use trial_kit::entries;
 use trial_kit::print_count;
 use trial_kit::print_entry;
-use trial_kit::print_refusal;
+use trial_kit::print_listed;
 use trial_kit::print_word;
 use trial_kit::print_zeros;
 use trial_kit::soil;
-
-// The answer, on the line.
-fn print_answer(answer: ListAnswer) {
-    match answer {
-        ListAnswer::Listed {
-            place,
-            passed,
-            count,
-        } => {
-            print_word(b" listed");
-            print_count(place as u64);
-            print_count(passed as u64);
-            print_count(count as u64);
-        }
-        ListAnswer::Refused(why) => print_refusal(why),
-    }
-}
-
-// How many entries are counted; none by a refusal.
-fn entries(answer: ListAnswer) -> u32 {
-    match answer {
-        ListAnswer::Listed {
-            place: _,
-            passed: _,
-            count,
-        } => count,
-        ListAnswer::Refused(_) => 0,
-    }
-}
 
 // Is the record as it was?
 fn is_zero(e: Entry) -> bool {
@@ -111,7 +82,7 @@ fn on_words(
     let filled = list_front(cat, place, budget, room, words, work);
     let answer = filled.answer;
     print_word(name);
-    print_answer(answer);
+    print_listed(answer);
     print_word(b" records");
     print_touched(filled);
     print_word(b" zeros");
