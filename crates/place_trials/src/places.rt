@@ -48,18 +48,20 @@ fn stand_at(run: Filled, count: usize, other: Filled, from: usize) -> bool {
     true
 }
 
-// The left side of the first entry that the call for one set gave, and whether its entries are those by which the walk
-// past the set has more than the walk up to it.
+// The left side of the first entry that the call for one set gave, if it gave one, and whether its entries are those by
+// which the walk past the set has more than the walk up to it.
 fn print_same(single: Filled, before: Filled, past: Filled) {
-    let first = single.run[0];
-    print_word(b" left");
-    print_count(first.left as u64);
     let a = single.answer;
     let b = before.answer;
     let c = past.answer;
     let here = entries(a) as usize;
     let from = entries(b) as usize;
     let all = entries(c) as usize;
+    if 0 < here {
+        let first = single.run[0];
+        print_word(b" left");
+        print_count(first.left as u64);
+    }
     if from + here != all {
         print_word(b" counts differ");
     } else if stand_at(single, here, past, from) {

@@ -1,8 +1,8 @@
 // Not for callers: what the trial programs share, small catalogues as their bytes (`album`), larger ones written into
 // lent bytes (`build`), lent work words before and after a call (`words`), and words on a line (`line`). It promises
 // nothing but that it is safe and ends: what the trials printed is compared with what they should.
-// Relies on `text` for entries, on `refusals` for the numbers of refusals and on `columns` for sets. Called by the trial
-// programs.
+// Relies on `text` for entries, on `refusals` for the numbers of refusals and on `columns` for sets. Called by the
+// trial programs.
 mod album;
 mod build;
 mod line;

@@ -24,7 +24,9 @@ element-set-from-none : tie.Need-element-set-from-none Inv-loop μ-loop
 element-set-from-none c = omega arith
 
 loop-holds : tie.Need-loop-holds Inv-loop μ-loop
-loop-holds c = (c .before .pre .0, omega arith, rows-begun (c .before .args .rows .now) _ (c .before .pre .1) (c .of-no-column .ensures))
+loop-holds c =
+    let d = c .before in
+    (d .pre .0, omega arith, rows-begun (d .args .rows .now) _ (d .pre .1) (c .of-no-column .ensures))
 
 cast-row : tie.Need-cast-row Inv-loop μ-loop
 cast-row c = omega arith
