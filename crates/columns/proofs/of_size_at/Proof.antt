@@ -66,9 +66,11 @@ taken : (c : lts.Then1 (power-reads.Asked, power-reads.Learnt) reads.Pre reads.P
     Taken (a .n) (a .k) (a .index) (l .m) (l .size) (l .left) (l .set)
     (getD (getD (a .rows .now) (l .m - 1) []) (l .size) 0)
 taken c =
-    let l = c .before .before .before .loop .inv in
+    let a = c .before .before .before .before .args in
+    let l = c .before .before .before .loop in
     let p = c .before .before .loop-test .taken in
-    sought-with _ _ _ _ _ _ _ _ (l .2) p (number (c .before .before)) (c .if1 .taken) (l .4)
+    let h : getD (getD (a .rows .now) (l .m - 1) []) (l .size) 0 ≤ l .left = omega (arith, c .if1 .taken) in
+    sought-with _ _ _ _ _ _ _ _ (l .inv .2) p (number (c .before .before)) h (l .inv .4)
 
 sub-size : tie.Need-sub-size Inv-loop μ-loop
 sub-size c = taken c .some
