@@ -1,4 +1,5 @@
-//! Document 02 b in plain loops: the check of a supplier's list by evidence, and evidence for a full listing.
+//! Document 02 b in plain loops, as d alters it: the check of a supplier's list by evidence, and evidence for a full
+//! listing.
 //!
 //! Nothing here is fast. Each function renders one sentence of the request.
 
@@ -99,7 +100,7 @@ pub fn first_flaw(catalogue: &Catalogue, entries: &[Entry]) -> Option<&'static s
 }
 
 /// Why an entry is refused: it "falls under 8 to 10, fails, or contains another", that is "another listed left for its
-/// target and right".
+/// target and right"; or "besides the earlier grounds, an entry is unbacked" (02 d).
 fn flaw(catalogue: &Catalogue, entries: &[Entry], entry: &Entry) -> Option<&'static str> {
     let (target, left, right) = (entry.target as u32, entry.left as u32, entry.right as u32);
     if let Err(refusal) = simple::refused_sides(catalogue, target, left, right) {
@@ -112,6 +113,9 @@ fn flaw(catalogue: &Catalogue, entries: &[Entry], entry: &Entry) -> Option<&'sta
     let mut others = entries.iter().filter(for_the_two).filter(|other| other.left != entry.left);
     if others.any(|other| inside(other.left as u32, left)) {
         return Some("contains another");
+    }
+    if !simple::backed(catalogue, target as usize, left) {
+        return Some("unbacked");
     }
     None
 }
@@ -129,9 +133,25 @@ fn inside(set: u32, other: u32) -> bool {
     set & !other == 0
 }
 
-/// What the first uncovered set lacks. "For every target and every right of it, each set without that right contains a
-/// left listed for the two or lies inside the set of a record for the two."
+/// What the first uncovered set lacks, of those that must be covered: "backed sets only" (02 d).
 pub fn first_gap(catalogue: &Catalogue, entries: &[Entry], records: &[Record]) -> Option<&'static str> {
+    let (target, right, set) = first_uncovered(catalogue, entries, records, true)?;
+    if simple::holds(catalogue, target, set, right) {
+        Some("a set that holds contains no listed left")
+    } else {
+        Some("a set that fails lies inside no record")
+    }
+}
+
+/// The first uncovered set among the backed ones, or among the others, with its target and right. "For every target and
+/// every right of it, each set without that right contains a left listed for the two or lies inside the set of a record
+/// for the two."
+pub fn first_uncovered(
+    catalogue: &Catalogue,
+    entries: &[Entry],
+    records: &[Record],
+    backed: bool,
+) -> Option<(usize, u32, u32)> {
     for target in 0..catalogue.tables.len() {
         for right in simple::rights(catalogue, target) {
             let for_the_two = |of: u8, to: u8| of as usize == target && to as u32 == right;
@@ -140,13 +160,13 @@ pub fn first_gap(catalogue: &Catalogue, entries: &[Entry], records: &[Record]) -
             let sets = records.iter().filter(|record| for_the_two(record.target, record.right));
             let sets: Vec<u32> = sets.map(|record| record.set as u32).collect();
             for set in sets_without(catalogue, target, right) {
+                if simple::backed(catalogue, target, set) != backed {
+                    continue;
+                }
                 let covered =
                     lefts.iter().any(|left| inside(*left, set)) || sets.iter().any(|above| inside(set, *above));
-                if !covered && simple::holds(catalogue, target, set, right) {
-                    return Some("a set that holds contains no listed left");
-                }
                 if !covered {
-                    return Some("a set that fails lies inside no record");
+                    return Some((target, right, set));
                 }
             }
         }
@@ -162,14 +182,22 @@ fn sets_without(catalogue: &Catalogue, target: usize, right: u32) -> impl Iterat
 
 // ---- Evidence for the full listing ----
 
-/// For each target and right, and each largest set without the right that fails: a record with its first breaking pair.
-pub fn records(catalogue: &Catalogue) -> Vec<Record> {
+/// The failing sets that evidence is made for: "a full listing is accepted if all records are true and each failing set
+/// has one above it", by 02 d each backed one.
+#[derive(Clone, Copy, PartialEq, Eq, Debug)]
+pub enum Failing {
+    Backed,
+    All,
+}
+
+/// For each target and right, and each largest such set without the right: a record with its first breaking pair.
+pub fn records(catalogue: &Catalogue, of: Failing) -> Vec<Record> {
     let mut records = Vec::new();
     for target in 0..catalogue.tables.len() {
         for right in simple::rights(catalogue, target) {
             for set in sets_without(catalogue, target, right) {
                 let Some((x, y)) = simple::first_pair(catalogue, target, set, right) else { continue };
-                if largest_failing(catalogue, target, set, right) {
+                if taken(catalogue, target, set, of) && largest(catalogue, target, set, right, of) {
                     let rows = [x as u16, y as u16];
                     records.push(Record { target: target as u8, right: right as u8, set: set as u16, rows });
                 }
@@ -179,9 +207,15 @@ pub fn records(catalogue: &Catalogue) -> Vec<Record> {
     records
 }
 
-/// Whether no set with a column more, still without the right, fails.
-fn largest_failing(catalogue: &Catalogue, target: usize, set: u32, right: u32) -> bool {
+/// Whether evidence is made for a set, if it fails.
+fn taken(catalogue: &Catalogue, target: usize, set: u32, of: Failing) -> bool {
+    of == Failing::All || simple::backed(catalogue, target, set)
+}
+
+/// Whether no such set with a column more, still without the right, fails.
+fn largest(catalogue: &Catalogue, target: usize, set: u32, right: u32, of: Failing) -> bool {
     let n = catalogue.tables[target].visible.len();
     let more = (0..n).filter(|k| !simple::member(set, *k) && *k as u32 != right);
-    more.map(|k| set | 1 << k).all(|above| simple::holds(catalogue, target, above, right))
+    let mut above = more.map(|k| set | 1 << k).filter(|above| taken(catalogue, target, *above, of));
+    above.all(|above| simple::holds(catalogue, target, above, right))
 }

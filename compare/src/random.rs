@@ -119,13 +119,15 @@ enum Tree {
     Any,
 }
 
-/// What a draft is made by: the number of tables, its tree, and the most columns, visible columns and rows.
+/// What a draft is made by: the number of tables, its tree, and the most columns, visible columns and rows; and how
+/// many in eight of its tables have gaps.
 struct Shape {
     tables: usize,
     tree: Tree,
     columns: usize,
     visible: usize,
     rows: usize,
+    gaps: usize,
 }
 
 fn shape(random: &mut Random) -> Shape {
@@ -134,18 +136,21 @@ fn shape(random: &mut Random) -> Shape {
     let many = random.from_to(2, TABLES);
     let most = if random.once_in(3) { TABLES } else { many };
     let wide_rows = random.pick(&[3, 3, 8]);
+    let wide = random.pick(&[14, 15]);
+    let gaps = 3;
     match random.below(1_000) {
-        0..=269 => Shape { tables: few, tree, columns: 3, visible: 5, rows: 6 },
-        270..=419 => Shape { tables: most, tree: Tree::Line, columns: 1, visible: 6, rows: 5 },
-        420..=559 => Shape { tables: most, tree: Tree::Star, columns: 3, visible: 4, rows: 5 },
-        560..=699 => Shape { tables: most, tree: Tree::Any, columns: 2, visible: 5, rows: 5 },
-        700..=799 => Shape { tables: few.min(2), tree, columns: 4, visible: 4, rows: 40 },
-        800..=849 => Shape { tables: few, tree, columns: 7, visible: 7, rows: 14 },
-        850..=879 => Shape { tables: most, tree, columns: 0, visible: 0, rows: 9 },
-        880..=969 => Shape { tables: few, tree: Tree::Line, columns: 8, visible: 8, rows: 7 },
-        970..=989 => Shape { tables: few, tree, columns: 11, visible: 11, rows: 6 },
-        990..=994 => Shape { tables: few, tree: Tree::Line, columns: 14, visible: 14, rows: wide_rows },
-        _ => Shape { tables: few, tree: Tree::Line, columns: COLUMNS, visible: COLUMNS, rows: wide_rows },
+        0..=99 => Shape { tables: few, tree: Tree::Line, columns: 4, visible: 6, rows: 12, gaps: 8 },
+        100..=269 => Shape { tables: few, tree, columns: 3, visible: 5, rows: 6, gaps },
+        270..=419 => Shape { tables: most, tree: Tree::Line, columns: 1, visible: 6, rows: 5, gaps },
+        420..=559 => Shape { tables: most, tree: Tree::Star, columns: 3, visible: 4, rows: 5, gaps },
+        560..=699 => Shape { tables: most, tree: Tree::Any, columns: 2, visible: 5, rows: 5, gaps },
+        700..=799 => Shape { tables: few.min(2), tree, columns: 4, visible: 4, rows: 40, gaps },
+        800..=849 => Shape { tables: few, tree, columns: 7, visible: 7, rows: 14, gaps },
+        850..=879 => Shape { tables: most, tree, columns: 0, visible: 0, rows: 9, gaps },
+        880..=969 => Shape { tables: few, tree: Tree::Line, columns: 8, visible: 8, rows: 7, gaps },
+        970..=989 => Shape { tables: few, tree, columns: 11, visible: 11, rows: 6, gaps },
+        990..=994 => Shape { tables: few, tree: Tree::Line, columns: wide, visible: wide, rows: wide_rows, gaps },
+        _ => Shape { tables: few, tree: Tree::Line, columns: COLUMNS, visible: COLUMNS, rows: wide_rows, gaps },
     }
 }
 
@@ -159,7 +164,7 @@ pub fn draft(random: &mut Random) -> Draft {
 pub fn small_draft(random: &mut Random, visible: usize, rows: usize) -> Draft {
     let tree = random.pick(&[Tree::Line, Tree::Star, Tree::Any]);
     let tables = random.from_to(1, 4);
-    draft_of(random, &Shape { tables, tree, columns: visible, visible, rows })
+    draft_of(random, &Shape { tables, tree, columns: visible, visible, rows, gaps: 3 })
 }
 
 fn draft_of(random: &mut Random, shape: &Shape) -> Draft {
@@ -176,16 +181,24 @@ fn draft_of(random: &mut Random, shape: &Shape) -> Draft {
         let fill = i + 1 == shape.tables && random.once_in(2);
         let columns = if fill { room } else { random.from_to(0, room) };
         let parents = if i == 0 { None } else { Some(draft.tables[parent].rows.len()) };
-        let rows = rows(random, shape.rows, parents, columns);
+        let gaps = if random.below(8) < shape.gaps { gaps(random, columns) } else { Gaps::No };
+        let rows = rows(random, shape.rows, parents, columns, gaps);
         draft.tables.push(DraftTable { columns, parent, rows });
     }
     draft
 }
 
-/// Rows of a table under a parent with so many rows; a table under an empty parent is empty.
-fn rows(random: &mut Random, most: usize, parents: Option<usize>, columns: usize) -> Vec<(usize, Vec<u32>)> {
+/// Rows of a table under a parent with so many rows; a table under an empty parent is empty, and some others are.
+fn rows(
+    random: &mut Random,
+    most: usize,
+    parents: Option<usize>,
+    columns: usize,
+    gaps: Gaps,
+) -> Vec<(usize, Vec<u32>)> {
+    let empty = parents == Some(0) || random.once_in(40);
     let low = if random.once_in(10) { 0 } else { most.min(2) };
-    let count = if parents == Some(0) { 0 } else { random.from_to(low, most) };
+    let count = if empty { 0 } else { random.from_to(low, most) };
     let styles: Vec<Style> = (0..columns).map(|_| style(random)).collect();
     let under = random.below(4);
     let repeats = random.pick(&[2, 6, 1_000]);
@@ -210,9 +223,42 @@ fn rows(random: &mut Random, most: usize, parents: Option<usize>, columns: usize
             let code = code(random, style, k, &codes);
             codes.push(code);
         }
+        leave_out(random, gaps, k, &mut codes);
         rows.push((parent, codes));
     }
     rows
+}
+
+/// The cells of a table's rows that are missing, besides those that the styles of its columns leave out.
+#[derive(Clone, Copy)]
+enum Gaps {
+    /// None.
+    No,
+    /// One cell of each row, in the next column after every two rows.
+    One,
+    /// Of each row the cells before this column, or those from it on.
+    Part(usize),
+    /// All cells of a row, once in so many rows.
+    Row(usize),
+}
+
+fn gaps(random: &mut Random, columns: usize) -> Gaps {
+    match random.below(3) {
+        0 => Gaps::One,
+        1 if columns > 1 => Gaps::Part(random.from_to(1, columns - 1)),
+        _ => Gaps::Row(random.from_to(1, 3)),
+    }
+}
+
+/// Leaves out the cells of row k.
+fn leave_out(random: &mut Random, gaps: Gaps, k: usize, codes: &mut [u32]) {
+    match gaps {
+        Gaps::One if !codes.is_empty() => codes[k / 2 % codes.len()] = MISSING,
+        Gaps::Part(column) if random.once_in(2) => codes[..column].fill(MISSING),
+        Gaps::Part(column) => codes[column..].fill(MISSING),
+        Gaps::Row(many) if random.once_in(many) => codes.fill(MISSING),
+        _ => {}
+    }
 }
 
 /// How the codes of one column are drawn.

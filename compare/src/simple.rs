@@ -1,4 +1,4 @@
-//! Document 01 in plain loops, with the requests of document 02 that have landed (a; b is in `evidence`): check,
+//! Document 01 in plain loops, with the requests of document 02 that have landed (a, d; b is in `evidence`): check,
 //! question, first breaking pair, full listing, listing call, packed list, the text that the listing program prints.
 //!
 //! Nothing here is fast. Each function renders one sentence or one table row of the documents, in their order.
@@ -169,7 +169,7 @@ impl Catalogue {
 // ---- Agreement ----
 
 /// The row of `table`, the target or an ancestor of it, to which the parent numbers lead from a row of the target.
-fn reached(catalogue: &Catalogue, target: usize, row: usize, table: usize) -> usize {
+pub fn reached(catalogue: &Catalogue, target: usize, row: usize, table: usize) -> usize {
     let mut at_table = target;
     let mut at_row = row;
     while at_table != table {
@@ -242,13 +242,36 @@ pub fn holds(catalogue: &Catalogue, target: usize, left: u32, right: u32) -> boo
     first_pair(catalogue, target, left, right).is_none()
 }
 
-/// Whether the left and right stand in the full listing: "It is minimal if the right isn't in the left
-/// and no left with a column less holds."
-pub fn listed(catalogue: &Catalogue, target: usize, left: u32, right: u32) -> bool {
+/// "It is minimal if the right isn't in the left and no left with a column less holds."
+pub fn minimal(catalogue: &Catalogue, target: usize, left: u32, right: u32) -> bool {
     let n = catalogue.tables[target].visible.len();
     !right_in(left, right)
         && holds(catalogue, target, left, right)
         && (0..n).all(|k| !member(left, k) || !holds(catalogue, target, left & !(1 << k), right))
+}
+
+/// Whether a row of the target has a cell in a visible column: the cell is that of the row reached in the column's
+/// table.
+fn present(catalogue: &Catalogue, target: usize, row: usize, k: usize) -> bool {
+    let column = catalogue.tables[target].visible[k];
+    let row = reached(catalogue, target, row, column.table);
+    catalogue.tables[column.table].rows[row].codes[column.own] != MISSING
+}
+
+/// "A left side is backed if in some row of the target all cells of that left side are present" (02 d).
+pub fn backed(catalogue: &Catalogue, target: usize, left: u32) -> bool {
+    let n = catalogue.tables[target].visible.len();
+    for row in 0..catalogue.tables[target].rows.len() {
+        if (0..n).all(|k| !member(left, k) || present(catalogue, target, row, k)) {
+            return true;
+        }
+    }
+    false
+}
+
+/// Whether the left and right stand in the full listing: of the minimal ones "only backed ones are listed" (02 d).
+pub fn listed(catalogue: &Catalogue, target: usize, left: u32, right: u32) -> bool {
+    backed(catalogue, target, left) && minimal(catalogue, target, left, right)
 }
 
 /// The rights of a target: its own columns by visible number, then the row.

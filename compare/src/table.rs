@@ -1,68 +1,98 @@
 //! The full listing by a table with one word per left side.
 //!
 //! For two rows, their agree set is the set of visible columns on which they agree. `scan` stores at each agree
-//! set that occurs the rights that it breaks (bit k column k, bit n the row); `close` ORs the words of all
-//! supersets into each word. Then bit a of word X is 1 exactly if X does not give a, and the minimal rights of
-//! X are read off directly. So are the largest sets that do not give a right: each is the agree set of two rows, which
-//! are the evidence for it.
+//! set that occurs the rights that it breaks (bit k column k, bit n the row), and `mark` a further bit at the set of
+//! columns in which a row has cells; `close` ORs the words of all supersets into each word. Then bit a of word X is 1
+//! exactly if X does not give a, the further bit exactly if X is backed, and the minimal rights of X are read off
+//! directly. So are the largest sets that do not give a right: each lies inside the agree set of two rows, which are
+//! the evidence for it.
 
-use crate::evidence::Record;
-use crate::simple::{Catalogue, Entry, MISSING, ROW};
+use crate::evidence::{Failing, Record};
+use crate::simple::{Catalogue, Entry, Row, MISSING, ROW};
+
+/// The bit of a left side that is backed.
+const BACKED: u32 = 1 << 31;
 
 /// The full listing of a catalogue.
 pub fn listing(catalogue: &Catalogue) -> Vec<Entry> {
+    minimal(catalogue, true)
+}
+
+/// The minimal dependencies and keys that are left out of it, since no row backs them.
+pub fn withheld(catalogue: &Catalogue) -> Vec<Entry> {
+    minimal(catalogue, false)
+}
+
+/// The minimal ones that are backed, or those that are not.
+fn minimal(catalogue: &Catalogue, backed: bool) -> Vec<Entry> {
     let codes: Vec<Vec<Vec<u32>>> = (0..catalogue.tables.len()).map(|table| columns_of(catalogue, table)).collect();
     let mut entries = Vec::new();
     for target in 0..catalogue.tables.len() {
         let n = catalogue.tables[target].visible.len();
         let mut broken = vec![0u32; 1 << n];
         scan(catalogue, &codes, target, &mut broken);
+        mark(catalogue, target, &mut broken);
         close(n, &mut broken);
-        read_off(catalogue, target, &broken, &mut entries);
+        read_off(catalogue, target, backed, &broken, &mut entries);
     }
     entries
 }
 
+/// What evidence is read off: the words before they are closed and after, and two rows for each agree set.
+struct Scanned {
+    seeds: Vec<u32>,
+    broken: Vec<u32>,
+    rows: Vec<[u16; 2]>,
+}
+
 /// Evidence for the full listing: a record for each target and right and each largest set without the right that fails,
-/// with two rows whose agree set it is.
-pub fn evidence(catalogue: &Catalogue) -> Vec<Record> {
+/// of the backed ones or of all.
+pub fn evidence(catalogue: &Catalogue, of: Failing) -> Vec<Record> {
     let codes: Vec<Vec<Vec<u32>>> = (0..catalogue.tables.len()).map(|table| columns_of(catalogue, table)).collect();
     let mut records = Vec::new();
     for target in 0..catalogue.tables.len() {
         let n = catalogue.tables[target].visible.len();
-        let mut broken = vec![0u32; 1 << n];
+        let mut seeds = vec![0u32; 1 << n];
         let mut rows = vec![[0; 2]; 1 << n];
-        let all = 2 * broken.len() as u32 - 1;
+        let all = 2 * seeds.len() as u32 - 1;
         each_line(catalogue, &codes, target, |x, line| {
             for (between, agree) in line.iter().enumerate() {
-                broken[*agree as usize] = all - agree;
+                seeds[*agree as usize] = all - agree;
                 rows[*agree as usize] = [x as u16, (x + 1 + between) as u16];
             }
         });
+        mark(catalogue, target, &mut seeds);
+        let mut broken = seeds.clone();
         close(n, &mut broken);
-        read_off_largest(catalogue, target, &broken, &rows, &mut records);
+        read_off_largest(catalogue, target, of, &Scanned { seeds, broken, rows }, &mut records);
     }
     records
 }
 
-/// The rights that a set breaks and no set with a column more does.
-fn read_off_largest(
-    catalogue: &Catalogue,
-    target: usize,
-    broken: &[u32],
-    rows: &[[u16; 2]],
-    records: &mut Vec<Record>,
-) {
+/// The rights that a set breaks and no set with a column more does, of the backed sets or of all.
+fn read_off_largest(catalogue: &Catalogue, target: usize, of: Failing, scanned: &Scanned, records: &mut Vec<Record>) {
     let table = &catalogue.tables[target];
     let n = table.visible.len();
-    for set in 0..1usize << n {
-        let more = (0..n).filter(|k| set & 1 << k == 0);
-        let largest = more.fold(broken[set], |largest, k| largest & !broken[set | 1 << k]);
+    let broken = &scanned.broken;
+    let taken = |set: &usize| of == Failing::All || broken[*set] & BACKED != 0;
+    for set in (0..1usize << n).filter(taken) {
+        let more = (0..n).filter(|k| set & 1 << k == 0).map(|k| set | 1 << k);
+        let largest = more.filter(taken).fold(broken[set], |largest, above| largest & !broken[above]);
         for k in (n - table.own..=n).filter(|k| largest & 1 << k != 0) {
             let right = if k == n { ROW as u8 } else { k as u8 };
-            records.push(Record { target: target as u8, right, set: set as u16, rows: rows[set] });
+            let rows = scanned.rows[agree_set(n, set, 1 << k, scanned)];
+            records.push(Record { target: target as u8, right, set: set as u16, rows });
         }
     }
+}
+
+/// An agree set that breaks the right, at or above a set that does: the way up goes by one column at a time.
+fn agree_set(n: usize, mut set: usize, right: u32, scanned: &Scanned) -> usize {
+    while scanned.seeds[set] & right == 0 {
+        let mut more = (0..n).filter(|k| set & 1 << k == 0).map(|k| set | 1 << k);
+        set = more.find(|above| scanned.broken[*above] & right != 0).expect("a larger set that breaks the right");
+    }
+    set
 }
 
 /// The codes of a table's own columns, column by column.
@@ -79,6 +109,24 @@ fn scan(catalogue: &Catalogue, codes: &[Vec<Vec<u32>>], target: usize, broken: &
             broken[*agree as usize] = all - agree;
         }
     });
+}
+
+/// Marks the set of columns in which a row of the target has cells, for each row.
+fn mark(catalogue: &Catalogue, target: usize, broken: &mut [u32]) {
+    present(catalogue, target).into_iter().for_each(|set| broken[set as usize] |= BACKED);
+}
+
+/// For each row of a table the set of visible columns in which it has cells.
+pub fn present(catalogue: &Catalogue, table: usize) -> Vec<u32> {
+    let this = &catalogue.tables[table];
+    let inherited = this.visible.len() - this.own;
+    let up = if inherited > 0 { present(catalogue, this.parent) } else { Vec::new() };
+    let set = |row: &Row| {
+        let own = (0..this.own).filter(|own| row.codes[*own] != MISSING);
+        let above = if inherited > 0 { up[row.parent] } else { 0 };
+        own.fold(above, |set, own| set | 1 << (inherited + own))
+    };
+    this.rows.iter().map(set).collect()
 }
 
 /// Hands on each row of the target with the agree sets of it and each row behind it.
@@ -153,13 +201,17 @@ fn in_listing_order(n: usize) -> Vec<u32> {
     sets
 }
 
-/// The minimal rights: not in the left, given by it, and by none of the lefts with a column less.
-fn read_off(catalogue: &Catalogue, target: usize, broken: &[u32], entries: &mut Vec<Entry>) {
+/// The minimal rights, of the left sides that are backed or of the others: not in the left, given by it, and by none of
+/// the lefts with a column less.
+fn read_off(catalogue: &Catalogue, target: usize, backed: bool, broken: &[u32], entries: &mut Vec<Entry>) {
     let table = &catalogue.tables[target];
     let n = table.visible.len();
     let inherited = n - table.own;
     let rights = ((2u32 << n) - 1) & !((1 << inherited) - 1);
     for left in in_listing_order(n) {
+        if (broken[left as usize] & BACKED != 0) != backed {
+            continue;
+        }
         let mut minimal = rights & !left & !broken[left as usize];
         let mut members = left;
         while members != 0 && minimal != 0 {

@@ -3,9 +3,12 @@
 //! Rows are grouped by their agreement on a set of visible columns; groups of one row are dropped. A set's
 //! error is the number of rows kept less the number of groups: 0 exactly for a key, and X gives a exactly if X
 //! and X with a have the same error. All visible columns are right sides of the search, since each prunes; only
-//! own columns are listed. Minimal keys are listed too, and the minimal dependencies whose left side is a key.
+//! own columns are listed. Minimal keys are listed too, and the minimal dependencies whose left side is a key; of all
+//! these, those that a row backs.
 
 use crate::simple::{position, Catalogue, Entry, MISSING, ROW};
+use crate::table;
+use std::cmp::Reverse;
 use std::collections::HashMap;
 
 /// The groups of two rows or more, one after the other.
@@ -120,14 +123,24 @@ pub fn listing(catalogue: &Catalogue) -> Vec<Entry> {
     for target in 0..catalogue.tables.len() {
         let table = &catalogue.tables[target];
         let inherited = (table.visible.len() - table.own) as u32;
+        let present = distinct_present(catalogue, target);
+        let backed = |left: u32| present.iter().any(|set| left & !set == 0);
         for (left, right) in minimal(catalogue, target) {
-            if right == ROW || right >= inherited {
+            if (right == ROW || right >= inherited) && backed(left) {
                 entries.push(Entry { target: target as u8, right: right as u8, left: left as u16 });
             }
         }
     }
     entries.sort_by_key(|entry| position(*entry));
     entries
+}
+
+/// The sets of columns in which rows of the target have cells, each once, the largest first.
+fn distinct_present(catalogue: &Catalogue, target: usize) -> Vec<u32> {
+    let mut present = table::present(catalogue, target);
+    present.sort_by_key(|set| (Reverse(set.count_ones()), *set));
+    present.dedup();
+    present
 }
 
 /// The minimal dependencies (left, right) of a target over all its visible columns, and its minimal keys.

@@ -1,5 +1,5 @@
-//! The simple implementation on document 01's own cases (the album, K1 to K11 and the boundary cases) and on the first
-//! of several breaking pairs.
+//! The simple implementation on document 01's own cases (the album, K1 to K11 and the boundary cases), on the first of
+//! several breaking pairs (02 a), and on what a row backs (02 d).
 
 use compare::simple::*;
 
@@ -76,6 +76,43 @@ fn cases_k1_to_k9() {
     assert!(!answer(&equal, 1, 3, ROW));
 }
 
+/// Whether a dependency of table 0 holds, is minimal, is backed and is listed.
+fn four(file: &[u8], left: u32, right: u32) -> [bool; 4] {
+    let catalogue = check(file).unwrap();
+    let backed = backed(&catalogue, 0, left);
+    [answer(file, 0, left, right), minimal(&catalogue, 0, left, right), backed, listed(&catalogue, 0, left, right)]
+}
+
+/// "A table without rows now lists nothing; K8's key holds and is unlisted."
+#[test]
+fn cases_k6_to_k8_listed_or_not() {
+    let no_rows = file(&[(1, ROOT, &[])]);
+    assert_eq!(four(&no_rows, 0, ROW), [true, true, false, false]);
+    assert_eq!(four(&no_rows, 0, 0), [true, true, false, false]);
+    assert!(full_listing(&check(&no_rows).unwrap()).concat().is_empty());
+    // the row backs the empty set, its missing cell notwithstanding
+    let one_row = file(&[(1, ROOT, &[(ROOT, &[MISSING])])]);
+    assert_eq!(four(&one_row, 0, 0), [true; 4]);
+    assert_eq!(four(&one_row, 0, ROW), [true; 4]);
+    assert_eq!(four(&one_row, 1, ROW), [true, false, false, false]);
+    let two_rows = file(&[(1, ROOT, &[(ROOT, &[MISSING]), (ROOT, &[MISSING])])]);
+    assert_eq!(four(&two_rows, 1, ROW), [true, true, false, false]);
+    assert_eq!(four(&two_rows, 0, ROW), [false, false, true, false]);
+    assert!(full_listing(&check(&two_rows).unwrap()).concat().is_empty());
+    // one cell more
+    let with_a_cell = file(&[(1, ROOT, &[(ROOT, &[MISSING]), (ROOT, &[7])])]);
+    assert_eq!(four(&with_a_cell, 1, ROW), [true; 4]);
+}
+
+/// Every left side of the album's table 1: rows 0 and 1 have all cells, rows 2 and 3 lack that of column 0. In table 0
+/// rows 0 and 1 have their cell.
+#[test]
+fn the_album_backs_every_left_side() {
+    let catalogue = check(&album()).unwrap();
+    assert!((0..8).all(|left| backed(&catalogue, 1, left)));
+    assert!((0..2).all(|left| backed(&catalogue, 0, left)));
+}
+
 /// The lowest first row, then the lowest second row.
 #[test]
 fn the_first_breaking_pair() {
@@ -84,7 +121,7 @@ fn the_first_breaking_pair() {
         pair(&check(&file).unwrap(), 0, 1, 1, &mut words()).unwrap()
     };
     let row = |codes| (ROOT, codes);
-    let (a, b, c, d, e): (&[u32], &[u32], &[u32], &[u32], &[u32]) = (&[1, 1], &[1, 2], &[1, 3], &[2, 1], &[2, 2]);
+    let [a, b, c, d, e]: [&[u32]; 5] = [&[1, 1], &[1, 2], &[1, 3], &[2, 1], &[2, 2]];
     assert_eq!(first(&[row(a), row(d), row(e), row(b), row(c)]), Some((0, 3)));
     assert_eq!(first(&[row(d), row(a), row(a), row(b), row(c)]), Some((1, 3)));
     assert_eq!(first(&[row(d), row(a), row(d), row(a)]), None);

@@ -1,11 +1,11 @@
-//! The check of a supplier's list by evidence (document 02 b), on the album and on small catalogues, worked out by hand
-//! from the request's words. Each expected answer is held against the simple implementation and the library. Also the
-//! simple implementation's records, read and made.
+//! The check of a supplier's list by evidence (document 02 b and d), on the album and on small catalogues, worked out
+//! by hand from the requests' words. Each expected answer is held against the simple implementation and the library.
+//! Also the simple implementation's records, read and made.
 //!
 //! In the album's table 1 rows 0 and 1, and rows 2 and 3, agree on {0, 2}; rows 0 and 2 agree on {1}; no other two rows
 //! agree on a column. In table 0 rows 0 and 1 agree on {0}; no other two do.
 
-use compare::evidence::{read, records, written, Record, RECORD_BYTES};
+use compare::evidence::{read, records, written, Failing, Record, RECORD_BYTES};
 use compare::ffi;
 use compare::random::{album, Draft, DraftTable};
 use compare::simple::{check, pack, Entry, Refusal, MISSING, NO_PARENT};
@@ -104,12 +104,14 @@ fn order_repeats_reversed_rows_and_bytes_in_front_are_allowed() {
 
 #[test]
 fn the_made_evidence_is_that_of_the_album() {
-    let mut made = records(&check(&album().file()).unwrap());
     let mut expected = TRUE.map(record).to_vec();
     let position = |record: &Record| (record.target, record.right, record.set);
-    made.sort_by_key(position);
     expected.sort_by_key(position);
-    assert_eq!(made, expected);
+    for of in [Failing::Backed, Failing::All] {
+        let mut made = records(&check(&album().file()).unwrap(), of);
+        made.sort_by_key(position);
+        assert_eq!(made, expected);
+    }
 }
 
 #[test]
@@ -200,19 +202,80 @@ fn refusals_in_their_order() {
     assert_eq!(verify(&album, &list(&[]), &[]), Err(Refusal::UncoveredSet));
 }
 
+/// One table of so many columns with these rows.
+fn table(columns: usize, rows: &[&[u32]]) -> Vec<u8> {
+    let rows = rows.iter().map(|codes| (NO_PARENT, codes.to_vec())).collect();
+    Draft { tables: vec![DraftTable { columns, parent: NO_PARENT, rows }] }.file()
+}
+
 #[test]
 fn the_smallest_catalogues() {
-    let table = |columns, rows| Draft { tables: vec![DraftTable { columns, parent: NO_PARENT, rows }] }.file();
-    let row = |codes: &[u32]| (NO_PARENT, codes.to_vec());
-    // without rows every right has the empty left
-    assert_eq!(verify(&table(0, vec![]), &list(&[(0, 0, ROW)]), &[]), Ok(1));
-    assert_eq!(verify(&table(1, vec![]), &list(&[(0, 0, 0), (0, 0, ROW)]), &[]), Ok(2));
-    assert_eq!(verify(&table(1, vec![]), &list(&[(0, 0, ROW)]), &[]), Err(Refusal::UncoveredSet));
-    // one row too
-    assert_eq!(verify(&table(1, vec![row(&[MISSING])]), &list(&[(0, 0, 0), (0, 0, ROW)]), &[]), Ok(2));
+    // without rows nothing is listed, and nothing must be covered
+    for columns in [0, 1] {
+        assert_eq!(verify(&table(columns, &[]), &list(&[]), &[]), Ok(0));
+        assert_eq!(verify(&table(columns, &[]), &list(&[(0, 0, ROW)]), &[]), Err(Refusal::UnsoundEntry));
+    }
+    assert_eq!(verify(&table(1, &[]), &list(&[(0, 0, 0)]), &[]), Err(Refusal::UnsoundEntry));
+    assert_eq!(verify(&table(1, &[]), &list(&[]), &evidence(&[(0, ROW, 0, 0, 1)])), Err(Refusal::FalseRecord));
+    // with one row every right has the empty left
+    let one = table(1, &[&[MISSING]]);
+    assert_eq!(verify(&one, &list(&[(0, 0, 0), (0, 0, ROW)]), &[]), Ok(2));
+    assert_eq!(verify(&one, &list(&[(0, 0, ROW)]), &[]), Err(Refusal::UncoveredSet));
+    assert_eq!(verify(&one, &list(&[]), &[]), Err(Refusal::UncoveredSet));
     // two rows without columns have no key
-    let two = table(0, vec![row(&[]), row(&[])]);
+    let two = table(0, &[&[], &[]]);
     assert_eq!(verify(&two, &list(&[]), &evidence(&[(0, ROW, 0, 1, 0)])), Ok(0));
     assert_eq!(verify(&two, &list(&[]), &[]), Err(Refusal::UncoveredSet));
     assert_eq!(verify(&two, &list(&[(0, 0, ROW)]), &[]), Err(Refusal::UnsoundEntry));
+}
+
+/// Two rows, both cells missing: {0} is a key, and no row backs it. The empty set is backed, and gives neither.
+#[test]
+fn a_key_that_no_row_backs() {
+    let two = table(1, &[&[MISSING], &[MISSING]]);
+    let (column, key) = ((0, 0, 0, 0, 1), (0, ROW, 0, 0, 1));
+    assert_eq!(verify(&two, &list(&[]), &evidence(&[column, key])), Ok(0));
+    assert_eq!(verify(&two, &list(&[(0, 1, ROW)]), &evidence(&[column, key])), Err(Refusal::UnsoundEntry));
+    // it is refused as such also where a set is uncovered, and after a record that is not true
+    assert_eq!(verify(&two, &list(&[(0, 1, ROW)]), &[]), Err(Refusal::UnsoundEntry));
+    assert_eq!(verify(&two, &list(&[(0, 1, ROW)]), &evidence(&[(0, ROW, 1, 0, 1)])), Err(Refusal::FalseRecord));
+    assert_eq!(verify(&two, &list(&[]), &evidence(&[column])), Err(Refusal::UncoveredSet));
+    assert_eq!(verify(&two, &list(&[]), &evidence(&[key])), Err(Refusal::UncoveredSet));
+}
+
+/// Columns 0, 1 and 2, and rows 1 - 5, 1 - 5, - 2 5, - 2 5. A row backs {0, 2} and {1, 2}, none backs {0, 1}. The empty
+/// set gives 2. {0, 2} gives neither 1 nor the row, {1, 2} neither 0 nor the row; {0, 1} is a key.
+#[test]
+fn only_backed_sets_must_be_covered() {
+    let (a, b): (&[u32], &[u32]) = (&[1, MISSING, 5], &[MISSING, 2, 5]);
+    let four = table(3, &[a, a, b, b]);
+    let lines = [(0, 0, 2)];
+    let plain = [(0, 0, 6, 2, 3), (0, 1, 5, 0, 1), (0, ROW, 5, 0, 1), (0, ROW, 6, 2, 3)];
+    let answer = |lines: &[Line], plain: &[Plain]| verify(&four, &list(lines), &evidence(plain));
+    assert_eq!(answer(&lines, &plain), Ok(1));
+    // {0, 1} and {0, 1, 2} contain no listed left for the row, and need none; with {0, 1} listed it is unbacked
+    assert_eq!(answer(&[lines[0], (0, 3, ROW)], &plain), Err(Refusal::UnsoundEntry));
+    for i in 0..plain.len() {
+        assert_eq!(answer(&lines, &without(&plain, i)), Err(Refusal::UncoveredSet), "record {i} dropped");
+    }
+    assert_eq!(answer(&[], &plain), Err(Refusal::UncoveredSet));
+}
+
+/// Column 0 is that of the table above, whose one row has its cell missing; under it are three rows with 1, 1 and 2 in
+/// column 1. All agree on {0}, since they reach one row, and none backs it: of {0} and {0, 1} records may be, but need
+/// not.
+#[test]
+fn records_need_not_be_backed() {
+    let above = DraftTable { columns: 1, parent: NO_PARENT, rows: vec![(NO_PARENT, vec![MISSING])] };
+    let below = DraftTable { columns: 1, parent: 0, rows: vec![(0, vec![1]), (0, vec![1]), (0, vec![2])] };
+    let file = Draft { tables: vec![above, below] }.file();
+    let lines = [(0, 0, 0), (0, 0, ROW)];
+    let answer = |plain: &[Plain]| verify(&file, &list(&lines), &evidence(plain));
+    // largest failing sets: {0} for column 1, {0, 1} for the row
+    assert_eq!(answer(&[(1, 1, 1, 0, 2), (1, ROW, 3, 0, 1)]), Ok(2));
+    // largest backed failing sets: the empty set, {1}
+    assert_eq!(answer(&[(1, 1, 0, 0, 2), (1, ROW, 2, 0, 1)]), Ok(2));
+    // {1} is backed, and {0} above the empty set alone
+    assert_eq!(answer(&[(1, 1, 0, 0, 2), (1, ROW, 1, 0, 1)]), Err(Refusal::UncoveredSet));
+    assert_eq!(answer(&[(1, ROW, 3, 0, 1)]), Err(Refusal::UncoveredSet));
 }

@@ -1,9 +1,10 @@
 //! What the C header says besides each call's reply: the stack that a call needs, and that threads may share a
 //! catalogue and a packed list.
 
+use compare::evidence::{self, Failing};
 use compare::random::{Draft, DraftTable, Random};
 use compare::simple::{self, Entry, COLUMNS, NO_PARENT, ROW, TABLES, WORK_WORDS};
-use compare::{evidence, ffi, stack, table};
+use compare::{ffi, stack, table};
 use std::thread::{scope, Builder};
 
 /// The stack of `cagberin_verify`, of `cagberin_list`, of a question or pair, and of each other call, as the header
@@ -73,7 +74,7 @@ fn lists_checked_by_evidence_in_threads_with_the_stated_stack() {
         let entries = table::listing(&catalogue);
         let mut list = vec![0; 4 * entries.len() + 8];
         simple::pack(&entries, &mut list).unwrap();
-        let records = evidence::written(&table::evidence(&catalogue));
+        let records = evidence::written(&table::evidence(&catalogue, Failing::Backed));
         let (accepted, uncovered) = (entries.len() as i64, -(simple::Refusal::UncoveredSet as i64));
         let less = records.len() - evidence::RECORD_BYTES;
         scope(|threads| {

@@ -10,7 +10,9 @@
 //!
 //! Codes are drawn evenly from a range of values, by column 2 to 64, or 2 to 8 in the shapes named `-few` and 300 to
 //! 1,500 in those named `-many`, where no column has so few classes of rows that a byte tells them apart. One
-//! cell in a hundred is missing in two columns. In a flat shape the last column is a function of two others and
+//! cell in a hundred is missing in two columns. In `flat-4096x16-missing` each row also lacks four of the first twelve
+//! columns side by side, row by row the next four, and one in sixteen of its other cells: no row backs a left side with
+//! a column of each four. In a flat shape the last column is a function of two others and
 //! the one before it of three; in a line the last column is a function of its table's first and the root's
 //! first. So most dependencies with small left sides break, some hold, and keys are larger in the `-few`
 //! shapes. That matters to TANE, whose work grows with the size of the keys; the table's does not. Rows stand
@@ -23,14 +25,16 @@
 //! the other seven for a column), of a column and of the row. A call of budget 1 is timed beside one of budget 2, at
 //! three places of the last table.
 //!
-//! The check by evidence is of the library's own full listing, packed, with a record for each largest set that fails.
+//! The check by evidence is of the library's own full listing, packed, with a record for each largest backed set that
+//! fails.
 //! Its time is shown beside that of making the listing with 65,536 words, with their ratio and the stack that it uses.
 //! `fork-15` and `album` have nothing else here. `fork-15` has many wide targets: under a root of 15 columns, made as a
 //! flat shape is, 15 tables of one column each, all of 480 rows. Of `album` the time is a mean over many checks.
 
+use compare::evidence::{self, Failing};
 use compare::random::{self, Draft, DraftTable, Random};
 use compare::simple::{self, Catalogue, Entry, MISSING, NO_PARENT, ROW, WORK_WORDS};
-use compare::{evidence, ffi, stack, table, tane};
+use compare::{ffi, stack, table, tane};
 use std::hint::black_box;
 use std::process::{exit, Command, Stdio};
 use std::time::{Duration, Instant};
@@ -99,6 +103,22 @@ fn flat(name: &'static str, rows: usize, columns: usize, ranges: &Ranges) -> Sha
     Shape { name, file: draft.file(), holds: (0b11, last), wide: (0xFF & !(1 << last), last), key }
 }
 
+/// One table like that, less the cells of four columns in each row, and one in sixteen of the others. The last two
+/// columns are left as they are, and still given by the same columns.
+fn flat_missing(name: &'static str, rows: usize) -> Shape {
+    let mut random = Random::new(16);
+    let mut table = root(&mut Random::new(rows as u64), rows, 16, &MODERATE);
+    for (k, (_, codes)) in table.rows.iter_mut().enumerate() {
+        for (column, code) in codes[..14].iter_mut().enumerate() {
+            if column / 4 == k % 3 || random.once_in(16) {
+                *code = MISSING;
+            }
+        }
+    }
+    let key = 0b0011_1111_1100_0000;
+    Shape { name, file: Draft { tables: vec![table] }.file(), holds: (0b11, 15), wide: (0xFF, 15), key }
+}
+
 /// A root of 15 columns and 15 tables of one column under it, with a row under each of its rows.
 fn fork() -> Vec<u8> {
     let mut random = Random::new(15);
@@ -120,7 +140,7 @@ fn last_two() -> Vec<u8> {
         codes[15] = k as u32 % 2;
         (NO_PARENT, codes)
     };
-    let rows = (0..4_096).map(|k| row(k)).collect();
+    let rows = (0..4_096).map(&mut row).collect();
     Draft { tables: vec![DraftTable { columns: 16, parent: NO_PARENT, rows }] }.file()
 }
 
@@ -195,10 +215,11 @@ fn root_code(draft: &Draft, table: usize, row: usize) -> u32 {
 const FORK: &str = "fork-15";
 const FORK_ROWS: usize = 480;
 const ALBUM: &str = "album";
-const SHAPES: [&str; 13] = [
+const SHAPES: [&str; 14] = [
     "flat-4096x16",
     "flat-4096x16-few",
     "flat-4096x16-many",
+    "flat-4096x16-missing",
     "line-4",
     "line-4-few",
     "nested-16",
@@ -216,6 +237,7 @@ fn shape(name: &str) -> Option<Shape> {
         "flat-4096x16" => Some(flat("flat-4096x16", 4_096, 16, &MODERATE)),
         "flat-4096x16-few" => Some(flat("flat-4096x16-few", 4_096, 16, &FEW)),
         "flat-4096x16-many" => Some(flat("flat-4096x16-many", 4_096, 16, &MANY)),
+        "flat-4096x16-missing" => Some(flat_missing("flat-4096x16-missing", 4_096)),
         "line-4" => Some(line("line-4", &LINE, &MODERATE)),
         "line-4-few" => Some(line("line-4-few", &LINE, &FEW)),
         "nested-16" => Some(line("nested-16", &NESTED, &MODERATE)),
@@ -409,7 +431,7 @@ fn last_pair() {
 /// One call of budget 1 and one of budget 2, at places early, in the middle and late among the last table's sets.
 fn single_calls(shape: &Shape, catalogue: &Catalogue) {
     let mut run = vec![Entry { target: 9, right: 9, left: 9 }; 64];
-    let (end, here) = (catalogue.sets() as u32, 1u32 << catalogue.tables[catalogue.tables.len() - 1].visible.len());
+    let (end, here) = (catalogue.sets(), 1u32 << catalogue.tables[catalogue.tables.len() - 1].visible.len());
     for words in [MANY_WORDS, WORK_WORDS] {
         for (name, place) in [("early", end - here + 1), ("middle", end - here / 2), ("late", end - 2)] {
             let mut times = [0.0; 2];
@@ -487,7 +509,7 @@ fn supply(file: &[u8]) -> Supply {
     let listing = with_words(MANY_WORDS, |work| entries = listed(file, u32::MAX, &mut run, work));
     let mut list = vec![0; 4 * entries + 8];
     assert_eq!(ffi::pack(&run[..entries], &mut list), list.len() as i64);
-    let records = table::evidence(&simple::check(file).unwrap());
+    let records = table::evidence(&simple::check(file).unwrap(), Failing::Backed);
     Supply { entries, records: records.len(), list, evidence: evidence::written(&records), listing }
 }
 
@@ -556,8 +578,12 @@ fn main() {
             exit(2)
         };
         let catalogue = simple::check(&shape.file).unwrap();
-        let entries = table::listing(&catalogue).len();
-        println!("{name}: {} bytes, {} sets, {entries} entries", shape.file.len(), catalogue.sets());
+        let (entries, withheld) = (table::listing(&catalogue).len(), table::withheld(&catalogue).len());
+        println!(
+            "{name}: {} bytes, {} sets, {entries} entries, {withheld} more that no row backs",
+            shape.file.len(),
+            catalogue.sets()
+        );
         line_of("call", "library", "simple", "TANE", "table");
         questions(&shape, &catalogue);
         if name == "flat-4096x16" {

@@ -1,5 +1,5 @@
--- What the call replies where it accepts: it does so exactly for the full listing with true records above all failing
--- sets, and answers the number of entries of the full listing and the number of records.
+-- What the call replies where it accepts: it does so exactly for the full listing with true records above all backed
+-- failing sets, and answers the number of entries of the full listing and the number of records.
 use Prim.Native.Nat.{ℕ}
 use mathlib.Core.Path.{_≡_, sym, ap, _∙_}
 use mathlib.Core.Logic.{_↔_}

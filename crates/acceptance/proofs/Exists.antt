@@ -1,9 +1,9 @@
--- Evidence exists: the records of specs/Exists.antt are those of the failing sets, each is true, and for an accepted
--- catalogue they are read back from their bytes, so that each failing set has a record above it.
+-- Evidence exists: the records of specs/Exists.antt are those of the backed failing sets, each is true, and for an
+-- accepted catalogue they are read back from their bytes, so that each backed failing set has a record above it.
 use Prim.Native.Nat.{ℕ, zero, suc, _^_, _<_}
 use mathlib.Core.Path.{_≡_, refl, sym, ap, subst}
 use mathlib.Core.Logic.{⊎-elim, _↔_}
-use mathlib.Core.Bool.{Bool, true, false, not}
+use mathlib.Core.Bool.{Bool, true, false, not, _&&_}
 use mathlib.Core.List.{List, [], _∷_, _++_, List·Memᴰ, List·Memᴰ·head, List·Memᴰ·tail, List·Memᴰ·not-nil}
 use mathlib.Core.List.{List·Memᴰ·cases-cons, List·Memᴰ·append-cases, Memᴰ·append-left, Memᴰ·append-right}
 use native.Mathlib.Decide.{ℕ-discrete}
@@ -15,7 +15,7 @@ use Rattle.columns.specs.Test.{pick}
 use Rattle.model.specs.Bounds.{row}
 use Rattle.model.specs.Catalogue.{tables, visible}
 use Rattle.model.specs.Check.{Accepted}
-use Rattle.model.specs.View.{In, Holds, isIn, holds}
+use Rattle.model.specs.View.{In, Holds, Backed, isIn, holds, backed}
 use Rattle.model.specs.Target.{view}
 use Rattle.model.specs.Pair.{FirstPair}
 use Rattle.model.specs.Listing.{ordinary, rightsOf}
@@ -23,6 +23,7 @@ use Rattle.model.specs.Evidence.{TrueRecord, recordsHeld}
 use Rattle.model.specs.declared.Evidence.{Evidence}
 use Rattle.model.proofs.Truth.{and-is, not-is}
 use Rattle.model.proofs.View.{isIn-is, holds-is}
+use Rattle.model.proofs.Backed.{backed-is}
 use Rattle.model.proofs.Pair.{firstPair-is, first-exists}
 use Rattle.model.proofs.Target.{view-equivalence}
 use Rattle.model.proofs.Check.{accepted-tables, accepted-visible, accepted-rows}
@@ -81,24 +82,39 @@ module _ {A : Type 0} (e : A) where
   one-is false r = (λ m. absurd (List·Memᴰ·not-nil m), λ w. absurd (w .0))
 
 module _ (cat : List ℕ) where
-  -- a set is without the right and fails
+  -- a set is without the right, backed, and fails
   failing-is : (target x right : ℕ)
-      → T (failing cat target x right) ↔ ((In right x → ⊥) × (Holds (view cat target) x right → ⊥))
+      → T (failing cat target x right)
+      ↔ ((In right x → ⊥) × Backed (view cat target) x × (Holds (view cat target) x right → ⊥))
   unfolding failing
   failing-is target x right = (
     λ t.
-        let w = and-is (not (isIn right x)) (not (holds (view cat target) x right)) .0 t in (
-          λ i. not-is (isIn right x) .0 (w .0) (isIn-is right x .1 i),
-          λ h. not-is (holds (view cat target) x right) .0 (w .1) (holds-is (view cat target) x right .1 h),
+        let a = and-is out (witnessed && fails) .0 t in
+        let b = and-is witnessed fails .0 (a .1) in (
+          λ i. not-is (isIn right x) .0 (a .0) (isIn-is right x .1 i),
+          backed-is (view cat target) x .0 (b .0),
+          λ h. not-is (holds (view cat target) x right) .0 (b .1) (holds-is (view cat target) x right .1 h),
         ),
     λ w.
-        and-is (not (isIn right x)) (not (holds (view cat target) x right)) .1 (
+        and-is out (witnessed && fails) .1 (
           not-is (isIn right x) .1 (λ t. w .0 (isIn-is right x .0 t)),
-          not-is (holds (view cat target) x right) .1 (λ t. w .1 (holds-is (view cat target) x right .0 t)),
+          and-is witnessed fails .1 (
+            backed-is (view cat target) x .1 (w .1),
+            not-is (holds (view cat target) x right) .1 (λ t. w .2 (holds-is (view cat target) x right .0 t)),
+          ),
         ),
   )
+    where
+      out : Bool
+      out = not (isIn right x)
 
-  -- the records are those of the failing sets
+      witnessed : Bool
+      witnessed = backed (view cat target) x
+
+      fails : Bool
+      fails = not (holds (view cat target) x right)
+
+  -- the records are those of the backed failing sets
   pub records-is : (e : Evidence) → List·Memᴰ e (recordsOf cat)
       ↔ ((target : ℕ) × (x : ℕ) × (right : ℕ) × Fails cat target x right × (e ≡ recordOf cat target x right))
   unfolding recordsOf recordsOfTarget recordsOfRight
@@ -116,8 +132,9 @@ module _ (cat : List ℕ) where
             candidate = record {
               allowed = sides-is cat (a .0) (c .0) (b .0) .1 (a .1, c .1, b .1);
               outside = f .0;
+              backed = f .1;
             };
-            broken = f .1;
+            broken = f .2;
           },
           d .1,
         ),
@@ -130,7 +147,7 @@ module _ (cat : List ℕ) where
         (in-mem e (recordsOfRight cat target) (rightsOf (ordinary cat) target) right (s .2)
         (below-mem e (2 ^ visible cat target) (one target right) x (s .1)
         (one-is e (failing cat target x right) (recordOf cat target x right) .1
-        (failing-is target x right .1 (w .3 .candidate .outside, w .3 .broken), w .4)))),
+        (failing-is target x right .1 (w .3 .candidate .outside, w .3 .candidate .backed, w .3 .broken), w .4)))),
   )
     where
       one : ℕ → ℕ → ℕ → List Evidence

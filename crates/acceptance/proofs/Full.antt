@@ -1,6 +1,6 @@
 -- What is accepted is the full listing, and the full listing is accepted: for a list without a ground under 15 and true
--- records, all entries are sound and all sets covered exactly if the list is the full listing and each failing set has
--- a record above it.
+-- records, all entries are sound and all backed sets covered exactly if the list is the full listing and each backed
+-- failing set has a record above it.
 use Prim.Native.Nat.{ℕ, _^_, _<_}
 use mathlib.Core.Path.{_≡_, refl, sym, ap, subst, _∙_}
 use mathlib.Core.Logic.{_⊎_, inl, inr, _↔_}
@@ -27,13 +27,13 @@ use Rattle.model.specs.declared.Evidence.{Evidence}
 use Rattle.model.proofs.Truth.{decided}
 use Rattle.model.proofs.Grounds.{orElse-right}
 use Rattle.model.proofs.View.{holds-is, more-holds, without-lacks}
+use Rattle.model.proofs.Backed.{backed-within, backed-without}
 use Rattle.model.proofs.Rights.{ordinary-bounded}
 use Rattle.model.proofs.Earlier.{ordered-same}
 use Rattle.model.proofs.Listing.{stands-is, full-ordered}
 use Rattle.evidence.proofs.Sides.{sides-is}
 use Rattle.acceptance.specs.Acceptance.{FailuresRecorded, FullWithEvidence}
-use Rattle.acceptance.proofs.Minimal.{listed-minimal, minimal-listed, without-inside, contains-minimal}
-use Rattle.acceptance.proofs.Minimal.{minimal-only}
+use Rattle.acceptance.proofs.Minimal.{without-inside, contains-minimal, minimal-only}
 use Rattle.acceptance.proofs.Entries.{entries-ordered, entries-each, right-outside}
 
 -- entries are equal part by part
@@ -61,26 +61,28 @@ module _ (cat : List ℕ) where
   stands-only e f s q a h w =
       minimal-only (view cat (e .target)) (e .right) (e .left) (f .left) (s .left)
       (subst (λ (t : ℕ). f .left < 2 ^ visible cat t) (q .0) (sides-is cat (f .target) (f .left) (f .right) .0 a .1))
-      (listed-minimal (s .listed)) w (holds-for (f .left) q h)
+      (s .listed .minimal) w (holds-for (f .left) q h)
 
   -- a list that is the full listing
   module _ (es : List Entry) (full : es ≡ flat (cells (ordinary cat))) where
     stands : (e : Entry) → List·Memᴰ e es → Stands (ordinary cat) e
     stands e m = stands-is (ordinary cat) e .0 (subst (λ (fs : List Entry). List·Memᴰ e fs) full m)
 
-    -- its entries are sound: a minimal left contains no other
+    -- its entries are sound: they are backed, and a minimal left contains no other
     pub full-sound : SoundEntries cat es
     full-sound e m =
         let s = stands e m in
         record {
           allowed = stands-allowed e s;
-          holds = listed-minimal (s .listed) .holds;
+          backed = s .listed .backed;
+          holds = s .listed .minimal .holds;
           alone = λ f n q other w.
               let t = stands f n in
-              other (stands-only e f s q (stands-allowed f t) (listed-minimal (t .listed) .holds) w);
+              other (stands-only e f s q (stands-allowed f t) (t .listed .minimal .holds) w);
         }
 
-    -- each set is covered: one that holds contains a minimal left, and one that fails has a record above it
+    -- each backed set is covered: one that holds contains a minimal left, which is backed as it is, and one that fails
+    -- has a record above it
     pub full-covers : (rs : List Evidence) → FailuresRecorded cat rs → CoveredSets cat es rs
     full-covers rs failures target x right c = at (decided (holds (view cat target) x right))
       where
@@ -93,8 +95,14 @@ module _ (cat : List ℕ) where
             let u = r .1 in
             let l = b .1 in
             let e = entry target (r .0) right in
+            let witnessed = backed-within (view cat target) x (r .0) (λ k l i. r .2 k i) (c .backed) in
             let s : Stands (ordinary cat) e =
-            record { target = b .0; left = omega arith; right = b .2; listed = minimal-listed (r .3) } in
+            record {
+              target = b .0;
+              left = omega arith;
+              right = b .2;
+              listed = record { backed = witnessed; minimal = r .3 };
+            } in
             let m = subst (λ (fs : List Entry). List·Memᴰ e fs) (sym full) (stands-is (ordinary cat) e .1 s) in
             inl (e, m, (refl, refl), r .2)
         at (inr n) =
@@ -112,15 +120,18 @@ module _ (cat : List ℕ) where
     -- a list that is accepted
     module _ (ok : Accepted cat) (es : List Entry) (fine : entriesCode es ≡ 0) (sound : SoundEntries cat es)
         (covered : CoveredSets cat es rs) where
-      -- a listed entry stands: with a column less it would contain another listed left or lie inside a record's set
+      -- a listed entry stands: with a column less it is still backed, so it would contain another listed left or lie
+      -- inside a record's set
       listed-stands : (e : Entry) → List·Memᴰ e es → Stands (ordinary cat) e
       listed-stands e m =
           record {
             target = a .0;
             left = a .1;
             right = a .2;
-            listed = minimal-listed
-                (record { holds = s .holds; outside = o; spare = λ k l i h. spare k i h (cover k) });
+            listed = record {
+              backed = s .backed;
+              minimal = record { holds = s .holds; outside = o; spare = λ k l i h. spare k i h (cover k) };
+            };
           }
         where
           s : SoundEntry cat es e
@@ -139,6 +150,7 @@ module _ (cat : List ℕ) where
                 allowed = sides-is cat (e .target) (withoutOf (e .left) k) (e .right) .1
                     (a .0, without-below (visible cat (e .target)) (e .left) k (a .1), a .2);
                 outside = λ i. o (without-inside (e .left) k (e .right) i);
+                backed = backed-without (view cat (e .target)) (e .left) k (s .backed);
               })
 
           spare : (k : ℕ) → In k (e .left) → Holds (view cat (e .target)) (withoutOf (e .left) k) (e .right)
@@ -149,14 +161,15 @@ module _ (cat : List ℕ) where
               (λ j b. without-inside (e .left) k j (w j b))
           spare k i h (inr r) = inside-fails (e .target) (e .right) (withoutOf (e .left) k) r h
 
-      -- an entry that stands is listed: it holds, so no record is above it, and it contains no other left that holds
+      -- an entry that stands is listed: it is backed, so it is covered; it holds, so no record is above it, and it
+      -- contains no other left that holds
       stands-listed : (e : Entry) → Stands (ordinary cat) e → List·Memᴰ e es
       stands-listed e s =
           at (covered (e .target) (e .left) (e .right)
-          (record { allowed = stands-allowed e s; outside = minimal .outside }))
+          (record { allowed = stands-allowed e s; outside = minimal .outside; backed = s .listed .backed }))
         where
           minimal : Minimal (view cat (e .target)) (e .left) (e .right)
-          minimal = listed-minimal (s .listed)
+          minimal = s .listed .minimal
 
           at : Covered es rs (e .target) (e .right) (e .left) → List·Memᴰ e es
           at (inl (f, m, q, w)) =
@@ -172,7 +185,7 @@ module _ (cat : List ℕ) where
           (λ e m. stands-is (ordinary cat) e .1 (listed-stands e m))
           (λ e m. stands-listed e (stands-is (ordinary cat) e .0 m))
 
-      -- and each failing set has a record above it: it contains no listed left, which would hold
+      -- and each backed failing set has a record above it: it contains no listed left, which would hold
       pub accepted-failures : FailuresRecorded cat rs
       accepted-failures target x right b = at (covered target x right (b .candidate))
         where
@@ -182,7 +195,7 @@ module _ (cat : List ℕ) where
               (holds-for (f .left) q (sound f m .holds))))
           at (inr r) = r
 
-    -- sound and covered exactly if full, with a record above each failing set
+    -- sound and covered exactly if full, with a record above each backed failing set
     pub sound-covered-is : Accepted cat → (es : List Entry) → entriesCode es ≡ 0
         → (SoundEntries cat es × CoveredSets cat es rs) ↔ ((es ≡ flat (cells (ordinary cat))) × FailuresRecorded cat rs)
     sound-covered-is ok es fine = (

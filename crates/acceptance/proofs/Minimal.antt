@@ -1,5 +1,5 @@
 -- Lefts that hold and the minimal ones, over any view: each that holds contains a minimal one, and a minimal one
--- contains no other that holds. What is listed is what is minimal.
+-- contains no other that holds.
 use Prim.Native.Nat.{ℕ, zero, suc, _^_, _≤_, _<_}
 use mathlib.Core.Path.{_≡_, sym, subst, _∙_}
 use mathlib.Core.Logic.{_⊎_, inl, inr}
@@ -11,17 +11,9 @@ use lib.Pow.{pow-pos}
 use Rattle.columns.specs.Set.{bit, withoutOf}
 use Rattle.columns.proofs.Bits.{bit-one, bits-same, bit-without-other, bit-power-le, without-lt}
 use Rattle.model.specs.View.{View, In, isIn, Holds, holds, Minimal, allBelow}
-use Rattle.model.specs.Listed.{Listed}
 use Rattle.model.specs.Verify.{Inside}
 use Rattle.model.proofs.Truth.{decided, and-is, not-is, allBelow-is, one-fails}
 use Rattle.model.proofs.View.{isIn-is, holds-is, minimal-least, without-lacks}
-
--- what is listed is minimal, and what is minimal is listed
-pub listed-minimal : {v : View} {x a : ℕ} → Listed v x a → Minimal v x a
-listed-minimal h = h
-
-pub minimal-listed : {v : View} {x a : ℕ} → Minimal v x a → Listed v x a
-minimal-listed h = h
 
 -- a set with a column less lies inside it
 pub without-inside : (x k : ℕ) → Inside (withoutOf x k) x

@@ -37,7 +37,6 @@ use Rattle.evidence.proofs.Records.{two-bytes}
 use Rattle.packed.proofs.Round.{reads-back}
 use Rattle.acceptance.specs.Acceptance.{fullListing}
 use Rattle.acceptance.specs.Packed.{fullFile, ListingRead}
-use Rattle.acceptance.proofs.Minimal.{listed-minimal}
 
 -- entries in listing order, each without a ground of its own, have none
 later-none : (e f : Entry) → Earlier e f → laterCode e f ≡ 0
@@ -99,7 +98,7 @@ module _ (cat : List ℕ) (ok : Accepted cat) where
       low = let t = s .target in omega (arith, accepted-tables cat ok)
 
       out : memberOf (e .left) (e .right) ≡ false
-      out = is-false (λ t. listed-minimal (s .listed) .outside (member-bit (e .left) (e .right) (is-true t) .1))
+      out = is-false (λ t. s .listed .minimal .outside (member-bit (e .left) (e .right) (is-true t) .1))
 
       at : Dec (e .right ≡ row)
           → ((inherited cat (e .target) ≤ e .right) × (e .right < visible cat (e .target))) ⊎ (e .right ≡ row)

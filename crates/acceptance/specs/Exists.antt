@@ -1,6 +1,6 @@
--- Evidence for a catalogue (document 02, b): for each target, each right of it and each set without that right for
--- which the dependency fails, one record, with the first breaking pair. There are more records than are needed, but
--- each failing set has its own.
+-- Evidence for a catalogue (document 02, b and d): for each target, each right of it and each backed set without that
+-- right for which the dependency fails, one record, with the first breaking pair. There are more records than are
+-- needed, but each backed failing set has its own.
 use Prim.Native.Nat.{ℕ, zero, suc, _^_}
 use mathlib.Core.Bool.{Bool, not, _&&_}
 use mathlib.Core.List.{List, [], _∷_, _++_}
@@ -8,7 +8,7 @@ use lib.ListN.{getD}
 use Rattle.columns.specs.Test.{pick}
 use Rattle.model.specs.Bytes.{Bytes}
 use Rattle.model.specs.Catalogue.{tables, visible}
-use Rattle.model.specs.View.{isIn, holds}
+use Rattle.model.specs.View.{isIn, holds, backed}
 use Rattle.model.specs.Target.{view}
 use Rattle.model.specs.Pair.{firstPair}
 use Rattle.model.specs.Listing.{ordinary, rightsOf}
@@ -26,9 +26,10 @@ unfoldable pub gatherIn : {A : Type 0} {B : Type 0} → List A → (A → List B
 gatherIn [] f = []
 gatherIn (x ∷ xs) f = f x ++ gatherIn xs f
 
--- the test of a failing set, where 8 to 10 allow the set and the right
+-- the test of a backed failing set, where 8 to 10 allow the set and the right
 unfoldable pub failing : List ℕ → ℕ → ℕ → ℕ → Bool
-failing cat target x right = not (isIn right x) && not (holds (view cat target) x right)
+failing cat target x right =
+    not (isIn right x) && (backed (view cat target) x && not (holds (view cat target) x right))
 
 -- the record of a set with its first breaking pair
 unfoldable pub recordOf : List ℕ → ℕ → ℕ → ℕ → Evidence
@@ -57,7 +58,7 @@ recordsOf cat = gatherBelow (tables cat) (recordsOfTarget cat)
 unfoldable pub evidenceOf : List ℕ → List ℕ
 evidenceOf cat = recordsBytes (recordsOf cat)
 
--- they are evidence for the full listing: bytes, whose records are all true, with one above each failing set
+-- they are evidence for the full listing: bytes, whose records are all true, with one above each backed failing set
 pub record EvidenceExists (cat : List ℕ) : Type 0 where
   pub bytes : Bytes (evidenceOf cat)
   pub records : TrueRecords cat (evidenceOf cat)

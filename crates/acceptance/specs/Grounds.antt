@@ -1,5 +1,5 @@
--- The replies of the check by evidence, in words (document 02, b): what each refusal says, that nothing else is refused
--- by it, the order, and that there are no others.
+-- The replies of the check by evidence, in words (document 02, b and d): what each refusal says, that nothing else is
+-- refused by it, the order, and that there are no others.
 use Prim.Native.Nat.{ℕ, _≤_}
 use mathlib.Core.Path.{_≡_}
 use mathlib.Core.Logic.{_⊎_, _↔_}
@@ -21,11 +21,11 @@ abbrev pub HasFalseRecord : List ℕ → List ℕ → Type 0
 HasFalseRecord cat bytes =
     (T (unbroken bytes) → ⊥) ⊎ ((e : Evidence) × List·Memᴰ e (recordsHeld bytes) × (TrueRecord cat e → ⊥))
 
--- an entry is not sound
+-- an entry is not sound: it falls under 8 to 10, is unbacked, fails, or contains another
 abbrev pub HasUnsoundEntry : List ℕ → List Entry → Type 0
 HasUnsoundEntry cat es = (e : Entry) × List·Memᴰ e es × (SoundEntry cat es e → ⊥)
 
--- a candidate is not covered
+-- a candidate is not covered: a backed set without the right
 abbrev pub HasUncoveredSet : List ℕ → List Entry → List Evidence → Type 0
 HasUncoveredSet cat es rs =
     (target : ℕ) × (x : ℕ) × (right : ℕ) × Candidate cat target x right × (Covered es rs target right x → ⊥)

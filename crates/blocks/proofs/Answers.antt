@@ -19,6 +19,7 @@ use Rattle.planes.specs.Bits.{planeBit, PlaneFrom}
 use Rattle.planes.specs.Plane.{Sown}
 use Rattle.planes.proofs.Plane.{seeds-filled-plane, narrow-is}
 use Rattle.planes.proofs.Seeds.{sown-kept}
+use Rattle.planes.proofs.Backed.{two-planes}
 use Rattle.blocks.specs.Cache.{pairsAt, leftAt, askedMinimal, Room, Lefts, AddedBelow, PairsBelow}
 use Rattle.blocks.specs.Cache.{Answered, Block}
 use Rattle.blocks.proofs.Pairs.{added-le}
@@ -124,7 +125,7 @@ answering-more n own a count before mid after h len b d =
       lefts = λ j. d .lefts j ∙ b .lefts j;
       below = λ j l. let e = ap (λ (k : ℕ). 2 ^ k) (add-one a) in omega (arith, d .below j l);
       rights = λ v s j l.
-          let t = d .rights v (sown-kept v n before mid h (λ i k. b .kept i (omega arith)) s) j l in
+          let t = d .rights v (sown-kept v n before mid h (λ i k. b .kept i (omega (arith, two-planes n h))) s) j l in
           t
           ∙ ap₂ (λ (w x : ℕ). w + pick (askedMinimal v own x a) (2 ^ a) 0) (b .rights v s j l) (b .lefts j)
           ∙ one-more (askedMinimal v own (word before (leftAt n j))) a;
@@ -141,7 +142,7 @@ block-done n own first a count start before after h e l b =
       cached = λ v s j k.
           let x = word before (leftAt n j) in
           let m = s .members in
-          let sown = sown-kept v n start before h (λ i g. l .kept i (omega arith)) s in
+          let sown = sown-kept v n start before h (λ i g. l .kept i (omega (arith, two-planes n h))) s in
           record {
             left = subst (λ (z : ℕ). word after (leftAt n j) < 2 ^ z) (sym m) (omega (arith, b .lefts j, l .lefts j k));
             rights =

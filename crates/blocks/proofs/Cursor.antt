@@ -12,39 +12,40 @@ use Rattle.model.specs.View.{View}
 use Rattle.model.proofs.Truth.{true-is, eqb-is}
 use Rattle.table.specs.Words.{word}
 use Rattle.table.specs.Broken.{minimalMask}
-use Rattle.planes.specs.Plane.{seedWords, Sown}
+use Rattle.planes.specs.Plane.{Sown, BackedBehind}
 use Rattle.planes.proofs.Seeds.{sown-kept}
-use Rattle.blocks.specs.Cache.{pairsAt, leftAt, Roomy, Cached, Stocked, Block, AtCursor, RightsFrom}
+use Rattle.planes.proofs.Backed.{two-planes, behind-kept}
+use Rattle.blocks.specs.Cache.{cursorAt, pairsAt, leftAt, Roomy, Cached, Stocked, Block, AtCursor, RightsFrom}
 
--- words whose count is 0 are ready once they hold the seeds
-pub roomy-begun : (n : ℕ) (ws : List ℕ) → pairsAt n + 2 ≤ length ws → word ws (seedWords n + 1) ≡ 0 → Roomy n ws
+-- words whose count is 0 are ready once they hold the seeds and the plane of backed left sides
+pub roomy-begun : (n : ℕ) (ws : List ℕ) → pairsAt n + 2 ≤ length ws → word ws (cursorAt n + 1) ≡ 0 → Roomy n ws
 roomy-begun n ws h e = record { one = h; count = omega arith }
 
-pub ready-begun : (v : View) (n own : ℕ) (ws : List ℕ) → Sown v n ws → word ws (seedWords n + 1) ≡ 0
-    → Stocked v n own ws
-ready-begun v n own ws s e = record { sown = s; cached = λ j l. absurd (omega arith) }
+pub ready-begun : (v : View) (n own : ℕ) (ws : List ℕ) → Sown v n ws → BackedBehind v n ws
+    → word ws (cursorAt n + 1) ≡ 0 → Stocked v n own ws
+ready-begun v n own ws s b e = record { sown = s; backed = b; cached = λ j l. absurd (omega arith) }
 
 -- the cursor's pair is inside, and its left side is compared
-pub cursor-inside : (n m : ℕ) (ws : List ℕ) → m ≡ seedWords n → Roomy n ws → word ws m < word ws (m + 1)
+pub cursor-inside : (n m : ℕ) (ws : List ℕ) → m ≡ cursorAt n → Roomy n ws → word ws m < word ws (m + 1)
     → m + 2 + 2 * word ws m + 2 ≤ length ws
 cursor-inside n m ws is r l = let e = ap (λ (k : ℕ). word ws (k + 1)) is in omega (arith, r .count)
 
-pub at-cursor-is : (n x m : ℕ) (ws : List ℕ) → m ≡ seedWords n → word ws m < word ws (m + 1)
+pub at-cursor-is : (n x m : ℕ) (ws : List ℕ) → m ≡ cursorAt n → word ws m < word ws (m + 1)
     → eqb (word ws (m + 2 + 2 * word ws m)) x ≡ true → AtCursor n x ws
 at-cursor-is n x m ws is l t =
     record {
       some = subst (λ (k : ℕ). word ws k < word ws (k + 1)) is l;
       left =
-          eqb-is (word ws (leftAt n (word ws (seedWords n)))) x .0
+          eqb-is (word ws (leftAt n (word ws (cursorAt n)))) x .0
           (true-is (subst (λ (k : ℕ). eqb (word ws (k + 2 + 2 * word ws k)) x ≡ true) is t));
     }
 
-pub at-cursor-inside : (n x m : ℕ) (ws : List ℕ) → m ≡ seedWords n → Roomy n ws → AtCursor n x ws
+pub at-cursor-inside : (n x m : ℕ) (ws : List ℕ) → m ≡ cursorAt n → Roomy n ws → AtCursor n x ws
     → m + 2 + 2 * word ws m + 2 ≤ length ws
 at-cursor-inside n x m ws is r a =
     cursor-inside n m ws is r (subst (λ (k : ℕ). word ws k < word ws (k + 1)) (sym is) (a .some))
 
-pub at-cursor-fits : (n x m : ℕ) (ws : List ℕ) → m ≡ seedWords n → AtCursor n x ws → word ws (seedWords n + 1) < 2 ^ 32
+pub at-cursor-fits : (n x m : ℕ) (ws : List ℕ) → m ≡ cursorAt n → AtCursor n x ws → word ws (cursorAt n + 1) < 2 ^ 32
     → word ws m + 1 < 2 ^ 32
 at-cursor-fits n x m ws is a h = let e = ap (word ws) is in omega (arith, a .some)
 
@@ -60,7 +61,7 @@ cached-kept v own from m k before after e kept c j l =
     }
 
 -- the cursor's pair answers, and the cursor moves
-module _ (n own x m : ℕ) (ws : List ℕ) (h : 5 ≤ n) (is : m ≡ seedWords n) (roomy : Roomy n ws)
+module _ (n own x m : ℕ) (ws : List ℕ) (h : 5 ≤ n) (is : m ≡ cursorAt n) (roomy : Roomy n ws)
     (at : AtCursor n x ws) where
   abbrev moved : List ℕ
   moved = set ws m (word ws m + 1)
@@ -71,29 +72,30 @@ module _ (n own x m : ℕ) (ws : List ℕ) (h : 5 ≤ n) (is : m ≡ seedWords n
   pub cursor-rights : RightsFrom n own x ws (set ws m (word ws m + 1))
       (word (set ws m (word ws m + 1)) (m + 2 + 2 * word ws m + 1))
   cursor-rights =
-      let c : word ws m ≡ word ws (seedWords n) = ap (word ws) is in
-      let q : word moved (seedWords n + 1) ≡ word ws (seedWords n + 1) = same (seedWords n + 1) (λ e. omega arith) in
+      let c : word ws m ≡ word ws (cursorAt n) = ap (word ws) is in
+      let q : word moved (cursorAt n + 1) ≡ word ws (cursorAt n + 1) = same (cursorAt n + 1) (λ e. omega arith) in
       record {
         roomy = record {
           one = omega (arith, roomy .one, length-set ws m (word ws m + 1));
           count = omega (arith, roomy .count, length-set ws m (word ws m + 1));
         };
         rights = λ v r.
-            let p = r .cached (word ws (seedWords n)) (at .some) in
-            let i : m + 2 + 2 * word ws m + 1 ≡ suc (leftAt n (word ws (seedWords n))) = omega arith in
+            let p = r .cached (word ws (cursorAt n)) (at .some) in
+            let i : m + 2 + 2 * word ws m + 1 ≡ suc (leftAt n (word ws (cursorAt n))) = omega arith in
             same (m + 2 + 2 * word ws m + 1) (λ e. omega arith) ∙ ap (word ws) i ∙ p .rights
             ∙ ap (minimalMask v own) (at .left);
         ready = λ v r.
             record {
-              sown = sown-kept v n ws moved h (λ i l. same i (λ e. omega arith)) (r .sown);
+              sown = sown-kept v n ws moved h (λ i l. same i (λ e. omega (arith, two-planes n h))) (r .sown);
+              backed = behind-kept v n ws moved h (λ i l. same i (λ e. omega (arith, two-planes n h))) (r .backed);
               cached =
-                  cached-kept v own (pairsAt n) (word ws (seedWords n + 1)) (word moved (seedWords n + 1)) ws moved q
+                  cached-kept v own (pairsAt n) (word ws (cursorAt n + 1)) (word moved (cursorAt n + 1)) ws moved q
                   (λ i l. same i (λ e. omega arith)) (r .cached);
             };
       }
 
 -- a new block answers, and the cursor stands behind its first pair
-module _ (n own x m count : ℕ) (before mid : List ℕ) (h : 5 ≤ n) (is : m ≡ seedWords n)
+module _ (n own x m count : ℕ) (before mid : List ℕ) (h : 5 ≤ n) (is : m ≡ cursorAt n)
     (len : length mid ≡ length before) (one : pairsAt n + 2 ≤ length before) (b : Block n own x count before mid) where
   abbrev begun : List ℕ
   begun = set (set mid m 1) (m + 1) count
@@ -101,7 +103,10 @@ module _ (n own x m count : ℕ) (before mid : List ℕ) (h : 5 ≤ n) (is : m �
   rest : (i : ℕ) → (i ≡ m → ⊥) → (i ≡ m + 1 → ⊥) → word begun i ≡ word mid i
   rest i d e = getD-set-other (set mid m 1) (m + 1) i count 0 e ∙ getD-set-other mid m i 1 0 d
 
-  counted : word begun (seedWords n + 1) ≡ count
+  kept : (i : ℕ) → i < cursorAt n → word begun i ≡ word before i
+  kept i l = rest i (λ e. omega arith) (λ e. omega arith) ∙ b .kept i (omega arith)
+
+  counted : word begun (cursorAt n + 1) ≡ count
   counted =
       ap (λ (k : ℕ). word begun (k + 1)) (sym is)
       ∙ getD-set-same (set mid m 1) (m + 1) count 0 (omega (arith, length-set mid m 1))
@@ -120,8 +125,10 @@ module _ (n own x m count : ℕ) (before mid : List ℕ) (h : 5 ≤ n) (is : m �
         ready = λ v r.
             record {
               sown = sown-kept v n before begun h
-                  (λ i l. rest i (λ e. omega arith) (λ e. omega arith) ∙ b .kept i (omega arith)) (r .sown);
-              cached = cached-kept v own (pairsAt n) count (word begun (seedWords n + 1)) mid begun counted
+                  (λ i l. kept i (omega (arith, two-planes n h))) (r .sown);
+              backed = behind-kept v n before begun h
+                  (λ i l. kept i (omega (arith, two-planes n h))) (r .backed);
+              cached = cached-kept v own (pairsAt n) count (word begun (cursorAt n + 1)) mid begun counted
                   (λ i l. rest i (λ e. omega arith) (λ e. omega arith)) (b .cached v (r .sown));
             };
       }

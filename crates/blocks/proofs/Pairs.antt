@@ -21,7 +21,7 @@ use Rattle.table.specs.Words.{word, Narrow}
 use Rattle.planes.specs.Bits.{planeBit}
 use Rattle.planes.specs.Plane.{seedWords}
 use Rattle.planes.proofs.Bits.{power-words}
-use Rattle.blocks.specs.Cache.{pairsAt, leftAt, Room, Lefts, Added, AddedBelow, PairsBelow}
+use Rattle.blocks.specs.Cache.{cursorAt, pairsAt, leftAt, Room, Lefts, Added, AddedBelow, PairsBelow}
 
 -- the next left side is one of n columns
 first-mem : (y : ℕ) (ys : List ℕ) → first ys ≡ Set (setOf y) → List·Memᴰ y ys
@@ -214,5 +214,8 @@ adding-fits n a j at count x r plane before after h is l p b d =
     omega (arith, added-le plane x a r d, pow-mono {i = a} {j = 16} h)
 
 -- how many pairs there are, and where they begin, in numbers
+pub cursorAt-small : (n : ℕ) → n ≤ columnBound → cursorAt n ≤ 4096
+cursorAt-small n h = pow-mono {i = n - 4} {j = 12} (omega arith)
+
 pub room-small : (n length count : ℕ) → n ≤ columnBound → Room n length count → count ≤ 65536
 room-small n length count h r = omega (arith, r .few, pow-mono {i = n} {j = 16} h)

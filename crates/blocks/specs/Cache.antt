@@ -1,6 +1,6 @@
--- The cache behind the seeds: a word for the cursor, a word for how many pairs stand there, and the pairs, each a left
--- side and its minimal rights. What the functions that write and read it promise.
-use Prim.Native.Nat.{ℕ, suc, _+_, _*_, _^_, _≤_, _<_}
+-- The cache behind the seeds and the plane of backed left sides: a word for the cursor, a word for how many pairs stand
+-- there, and the pairs, each a left side and its minimal rights. What the functions that write and read it promise.
+use Prim.Native.Nat.{ℕ, suc, _+_, _-_, _*_, _^_, _≤_, _<_}
 use mathlib.Core.Path.{_≡_}
 use mathlib.Core.Logic.{_↔_}
 use mathlib.Core.Bool.{Bool, true, _&&_}
@@ -12,11 +12,15 @@ use Rattle.table.specs.Words.{word, Narrow}
 use Rattle.table.specs.Broken.{minimalMask}
 use Rattle.model.specs.Rights.{rightAt}
 use Rattle.planes.specs.Bits.{planeBit}
-use Rattle.planes.specs.Plane.{seedWords, Sown}
+use Rattle.planes.specs.Plane.{seedWords, Sown, BackedBehind}
 
--- where the pairs begin: behind the seeds, the cursor and the count
+-- where the cursor stands: behind the seeds and the plane of backed left sides, which takes as many words; and where
+-- the pairs begin: behind it and the count
+abbrev pub cursorAt : ℕ → ℕ
+cursorAt n = 2 ^ (n - 4)
+
 abbrev pub pairsAt : ℕ → ℕ
-pairsAt n = seedWords n + 2
+pairsAt n = cursorAt n + 2
 
 -- the places of the left side and of the rights of pair j
 abbrev pub leftAt : ℕ → ℕ → ℕ
@@ -25,7 +29,7 @@ leftAt n j = pairsAt n + 2 * j
 -- the pairs that the words say they hold are inside, and there is room for at least one
 pub record Roomy (n : ℕ) (ws : List ℕ) : Type 0 where
   pub one : pairsAt n + 2 ≤ length ws
-  pub count : leftAt n (word ws (seedWords n + 1)) ≤ length ws
+  pub count : leftAt n (word ws (cursorAt n + 1)) ≤ length ws
 
 -- pairs of words from a place on: a left side, and behind it its minimal rights
 pub record CachedPair (v : View) (own : ℕ) (ws : List ℕ) (at : ℕ) : Type 0 where
@@ -35,10 +39,11 @@ pub record CachedPair (v : View) (own : ℕ) (ws : List ℕ) (at : ℕ) : Type 0
 abbrev pub Cached : View → ℕ → List ℕ → ℕ → ℕ → Type 0
 Cached v own ws from count = (j : ℕ) → j < count → CachedPair v own ws (from + 2 * j)
 
--- the words hold the seeds, and the pairs behind them are right
+-- the words hold the seeds and the plane of backed left sides, and the pairs behind them are right
 pub record Stocked (v : View) (n own : ℕ) (ws : List ℕ) : Type 0 where
   pub sown : Sown v n ws
-  pub cached : Cached v own ws (pairsAt n) (word ws (seedWords n + 1))
+  pub backed : BackedBehind v n ws
+  pub cached : Cached v own ws (pairsAt n) (word ws (cursorAt n + 1))
 
 -- right a is asked for and minimal for x
 abbrev pub askedMinimal : View → ℕ → ℕ → ℕ → Bool
@@ -96,8 +101,8 @@ pub record Block (n own first count : ℕ) (before after : List ℕ) : Type 0 wh
 
 -- the cursor's pair is that of x
 pub record AtCursor (n x : ℕ) (ws : List ℕ) : Type 0 where
-  pub some : word ws (seedWords n) < word ws (seedWords n + 1)
-  pub left : word ws (leftAt n (word ws (seedWords n))) ≡ x
+  pub some : word ws (cursorAt n) < word ws (cursorAt n + 1)
+  pub left : word ws (leftAt n (word ws (cursorAt n))) ≡ x
 
 -- the rights of x, and words that stay ready
 pub record RightsFrom (n own x : ℕ) (before after : List ℕ) (r : ℕ) : Type 0 where

@@ -1,7 +1,7 @@
 // Not for callers: blocks of left sides, for calls that are lent less than one word for each left side. Behind the
-// seeds the words hold the next left sides in listing order, each with its minimal rights, and a cursor to the one
-// that is asked for next. Promised are the rights of each left side that stands there: other left sides, or a cursor
-// that misses, would only cost time.
+// seeds and the plane of backed left sides the words hold the next left sides in listing order, each with its minimal
+// rights, and a cursor to the one that is asked for next. Promised are the rights of each left side that stands there:
+// other left sides, or a cursor that misses, would only cost time.
 // Relies on the definitions of `model` and `columns`, and on `planes` for the plane of each right. Called by `rights`.
 ghost use Prim.Native.Nat.{_+_, _/_, _^_, _≤_, _<_};
 ghost use mathlib.Core.Path.{_≡_};
@@ -22,7 +22,7 @@ fn room(length: usize, n: u32) -> u32
     ensures { λ r. ⌜ Room n length r ⌝ }
 {
     let all = power(n);
-    let pairs = (length - (power(n - 5) as usize + 2)) / 2;
+    let pairs = (length - (power(n - 4) as usize + 2)) / 2;
     if all as usize <= pairs {
         return all;
     }
@@ -35,7 +35,7 @@ fn write_lefts(words: &mut [u32], n: u32, first: u32) -> u32
     ensures { λ r. ⌜ Lefts n first r (now (words .entry)) (now (words .exit)) ⌝ }
 {
     let pairs = room(words.len(), n);
-    let from = power(n - 5) + 2;
+    let from = power(n - 4) + 2;
     let mut x = first;
     let mut j = 0;
     while j < pairs {
@@ -68,7 +68,7 @@ fn add_right(words: &mut [u32], n: u32, count: u32, a: u32, plane: &[u32])
         × Room n (length (now words)) count × PairsBelow n a count (now words) ⌝ }
     ensures { λ r. ⌜ AddedBelow n a count (now (plane .entry)) (now (words .entry)) (now (words .exit)) ⌝ }
 {
-    let from = power(n - 5) + 2;
+    let from = power(n - 4) + 2;
     let mut j = 0;
     while j < count {
         let at = (from + 2 * j) as usize;
@@ -111,7 +111,7 @@ fn at_cursor(words: &[u32], n: u32, x: u32) -> bool
     requires { ⌜ (5 ≤ n) × (n ≤ columnBound) × Roomy n (now words) ⌝ }
     ensures { λ r. ⌜ (r ≡ true → AtCursor n x (now (words .entry))) ⌝ }
 {
-    let m = power(n - 5) as usize;
+    let m = power(n - 4) as usize;
     let cursor = words[m];
     if words[m + 1] <= cursor {
         return false;
@@ -124,7 +124,7 @@ pub fn rights_from(words: &mut [u32], n: u32, own: u32, x: u32) -> u32
     requires { ⌜ (5 ≤ n) × (n ≤ columnBound) × (x < 2 ^ n) × Roomy n (now words) ⌝ }
     ensures { λ r. ⌜ RightsFrom n own x (now (words .entry)) (now (words .exit)) r ⌝ }
 {
-    let m = power(n - 5) as usize;
+    let m = power(n - 4) as usize;
     if at_cursor(words, n, x) {
         let cursor = words[m];
         words[m] = cursor + 1;

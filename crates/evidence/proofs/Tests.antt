@@ -9,7 +9,7 @@ use lib.Dec.{T, eqb, ltb, ltb→lt, lt→ltb}
 use Rattle.columns.specs.Set.{withinOf}
 use Rattle.columns.proofs.Bits.{within-members, members-within}
 use Rattle.model.specs.Catalogue.{tables, visible, rows}
-use Rattle.model.specs.View.{In, isIn, agreeOn, agreeRight, holds, allBelow}
+use Rattle.model.specs.View.{In, Backed, isIn, agreeOn, agreeRight, holds, backed, allBelow}
 use Rattle.model.specs.Target.{view}
 use Rattle.model.specs.Question.{sidesCode}
 use Rattle.model.specs.Listing.{ordinary, rightsOf}
@@ -19,8 +19,10 @@ use Rattle.model.specs.Verify.{TrueRecords, SoundEntries, CoveredSets, isFor, i
 use Rattle.model.specs.Verify.{areTrueRecords, areSoundEntries, areCoveredSets}
 use Rattle.model.specs.declared.Entry.{Entry}
 use Rattle.model.specs.declared.Evidence.{Evidence}
-use Rattle.model.proofs.Truth.{is-true, true-is, decided, and-is, or-is, not-is, eqb-is, allBelow-is, one-fails}
+use Rattle.model.proofs.Truth.{is-true, true-is, decided, and-is, or-is, not-is, implies-is, eqb-is}
+use Rattle.model.proofs.Truth.{allBelow-is, one-fails}
 use Rattle.model.proofs.View.{isIn-is, agreeOn-is, holds-is}
+use Rattle.model.proofs.Backed.{backed-is}
 use Rattle.evidence.proofs.Every.{allIn-is, someIn-is, one-fails-in}
 use Rattle.evidence.proofs.Sides.{sides-is}
 
@@ -166,31 +168,39 @@ module _ (cat : List ℕ) (es : List Entry) (e : Entry) where
   unfolding isSoundEntry
   sound-entry-is = (
     λ t.
-        let a = and-is allowed (stands && alone) .0 t in
-        let b = and-is stands alone .0 (a .1) in
+        let a = and-is allowed (witnessed && (stands && alone)) .0 t in
+        let w = and-is witnessed (stands && alone) .0 (a .1) in
+        let b = and-is stands alone .0 (w .1) in
         record {
           allowed = eqb-is (sidesCode cat (e .target) (e .left) (e .right)) 0 .0 (a .0);
+          backed = backed-is (view cat (e .target)) (e .left) .0 (w .0);
           holds = holds-is (view cat (e .target)) (e .left) (e .right) .0 (b .0);
           alone = λ f m for other within.
               not-is (someIn another es) .0 (b .1)
               (someIn-is another es .1 (f, m, another-is f .1 (for, other, within)));
         },
     λ s.
-        and-is allowed (stands && alone) .1 (
+        and-is allowed (witnessed && (stands && alone)) .1 (
           eqb-is (sidesCode cat (e .target) (e .left) (e .right)) 0 .1 (s .allowed),
-          and-is stands alone .1 (
-            holds-is (view cat (e .target)) (e .left) (e .right) .1 (s .holds),
-            not-is (someIn another es) .1
-                (λ t.
-                let w = someIn-is another es .0 t in
-                let v = another-is (w .0) .0 (w .2) in
-                s .alone (w .0) (w .1) (v .0) (v .1) (v .2)),
+          and-is witnessed (stands && alone) .1 (
+            backed-is (view cat (e .target)) (e .left) .1 (s .backed),
+            and-is stands alone .1 (
+              holds-is (view cat (e .target)) (e .left) (e .right) .1 (s .holds),
+              not-is (someIn another es) .1
+                  (λ t.
+                  let w = someIn-is another es .0 t in
+                  let v = another-is (w .0) .0 (w .2) in
+                  s .alone (w .0) (w .1) (v .0) (v .1) (v .2)),
+            ),
           ),
         ),
   )
     where
       allowed : Bool
       allowed = eqb (sidesCode cat (e .target) (e .left) (e .right)) 0
+
+      witnessed : Bool
+      witnessed = backed (view cat (e .target)) (e .left)
 
       stands : Bool
       stands = holds (view cat (e .target)) (e .left) (e .right)
@@ -269,16 +279,42 @@ module _ (es : List Entry) (rs : List Evidence) where
           (λ (a : InsideRecord rs target right x). inr (inside-record-is .1 a)) c),
     )
 
-  -- each set without the right is
+  -- each backed set without the right is
   module _ (cat : List ℕ) where
     abbrev setTest : ℕ → ℕ → ℕ → Bool
-    setTest target right x = isIn right x || isCovered es rs target right x
+    setTest target right x = isIn right x || (not (backed (view cat target) x) || isCovered es rs target right x)
 
     abbrev rightTest : ℕ → ℕ → Bool
     rightTest target right = allBelow (2 ^ visible cat target) (setTest target right)
 
     abbrev targetTest : ℕ → Bool
     targetTest target = allIn (rightTest target) (rightsOf (ordinary cat) target)
+
+    set-is : (target right x : ℕ)
+        → T (setTest target right x)
+        ↔ ((In right x → ⊥) → Backed (view cat target) x → Covered es rs target right x)
+    set-is target right x = (
+      λ t out b.
+          ⊎-elim (λ (i : T (isIn right x)). absurd (out (isIn-is right x .0 i)))
+          (λ h. covered-is target right x .0 (implies-is there covers .0 h (backed-is (view cat target) x .1 b)))
+          (or-is (isIn right x) (not there || covers) .0 t),
+      λ h. or-is (isIn right x) (not there || covers) .1 (at h (decided (isIn right x))),
+    )
+      where
+        there : Bool
+        there = backed (view cat target) x
+
+        covers : Bool
+        covers = isCovered es rs target right x
+
+        at : ((In right x → ⊥) → Backed (view cat target) x → Covered es rs target right x)
+            → T (isIn right x) ⊎ (T (isIn right x) → ⊥)
+            → T (isIn right x) ⊎ T (not there || covers)
+        at h (inl i) = inl i
+        at h (inr n) =
+            inr (implies-is there covers .1
+            (λ t. covered-is target right x .1
+            (h (λ i. n (isIn-is right x .1 i)) (backed-is (view cat target) x .0 t))))
 
     pub covered-sets-is : T (areCoveredSets cat es rs) ↔ CoveredSets cat es rs
     unfolding areCoveredSets
@@ -287,25 +323,16 @@ module _ (es : List Entry) (rs : List Evidence) where
           let w = sides-is cat target x right .0 (c .allowed) in
           let row = allBelow-is (tables cat) targetTest .0 t target (w .0) in
           let one = allIn-is (rightTest target) (rightsOf (ordinary cat) target) .0 row right (w .2) in
-          ⊎-elim (λ (i : T (isIn right x)). absurd (c .outside (isIn-is right x .0 i)))
-          (λ (h : T (isCovered es rs target right x)). covered-is target right x .0 h)
-          (or-is (isIn right x) (isCovered es rs target right x) .0
-          (allBelow-is (2 ^ visible cat target) (setTest target right) .0 one x (w .1))),
+          set-is target right x .0 (allBelow-is (2 ^ visible cat target) (setTest target right) .0 one x (w .1))
+          (c .outside) (c .backed),
       λ h.
           allBelow-is (tables cat) targetTest .1
           (λ target l. allIn-is (rightTest target) (rightsOf (ordinary cat) target) .1
           (λ right m. allBelow-is (2 ^ visible cat target) (setTest target right) .1
-          (λ x u. or-is (isIn right x) (isCovered es rs target right x) .1
-          (at target x right (λ out. h target x right
-          (record { allowed = sides-is cat target x right .1 (l, u, m); outside = out }))
-          (decided (isIn right x)))))),
+          (λ x u. set-is target right x .1
+          (λ out b. h target x right
+          (record { allowed = sides-is cat target x right .1 (l, u, m); outside = out; backed = b }))))),
     )
-      where
-        at : (target x right : ℕ) → ((In right x → ⊥) → Covered es rs target right x)
-            → T (isIn right x) ⊎ (T (isIn right x) → ⊥)
-            → T (isIn right x) ⊎ T (isCovered es rs target right x)
-        at target x right h (inl i) = inl i
-        at target x right h (inr n) = inr (covered-is target right x .1 (h (λ i. n (isIn-is right x .1 i))))
 
     pub uncovered-set : (T (areCoveredSets cat es rs) → ⊥)
         → (target : ℕ) × (x : ℕ) × (right : ℕ) × Candidate cat target x right × (Covered es rs target right x → ⊥)
@@ -317,13 +344,26 @@ module _ (es : List Entry) (rs : List Evidence) where
         let right = r .0 in
         let s = one-fails (2 ^ visible cat target) (setTest target right) (r .2) in
         let x = s .0 in
-        let either = or-is (isIn right x) (isCovered es rs target right x) .1 in (
+        let f = failed target right x (s .2) (decided (backed (view cat target) x)) in (
           target,
           x,
           right,
           record {
             allowed = sides-is cat target x right .1 (t .1, s .1, r .1);
-            outside = λ i. s .2 (either (inl (isIn-is right x .1 i)));
+            outside = f .0;
+            backed = f .1;
           },
-          λ c. s .2 (either (inr (covered-is target right x .1 c))),
+          f .2,
         )
+      where
+        -- a set that fails the test is without the right, backed, and not covered
+        failed : (target right x : ℕ) → (T (setTest target right x) → ⊥)
+            → T (backed (view cat target) x) ⊎ (T (backed (view cat target) x) → ⊥)
+            → (In right x → ⊥) × Backed (view cat target) x × (Covered es rs target right x → ⊥)
+        failed target right x n (inl t) = (
+          λ i. n (set-is target right x .1 (λ out b. absurd (out i))),
+          backed-is (view cat target) x .0 t,
+          λ c. n (set-is target right x .1 (λ out b. c)),
+        )
+        failed target right x n (inr u) =
+            absurd (n (set-is target right x .1 (λ out b. absurd (u (backed-is (view cat target) x .1 b)))))

@@ -11,15 +11,13 @@ use Rattle.columns.specs.Set.{bit}
 use Rattle.columns.proofs.Bits.{bit-below}
 use Rattle.model.specs.Bounds.{rowBound}
 use Rattle.model.specs.Bytes.{u16At, u32At}
-use Rattle.model.specs.Catalogue
-use Rattle.model.specs.Catalogue.{tables, tableAt, columns, parent, rows, rowAt, parentRow, cell, visible, inherited}
+use Rattle.model.specs.Catalogue.{tables, tableAt, columns, parent, rows, parentRow, cell, visible, inherited}
 use Rattle.model.specs.Check.{Accepted}
 use Rattle.model.specs.View.{View, In, agreeOn}
 use Rattle.model.specs.Target.{cellsAgree, agreeAt, view}
 use Rattle.model.proofs.Truth.{same-test}
 use Rattle.model.proofs.View.{agreeOn-is}
 use Rattle.model.proofs.Check.{accepted-parent, accepted-visible, accepted-row}
-use Rattle.model.proofs.Climb.{inherited-own}
 use Rattle.model.proofs.Ancestors.{agree-own, agree-above, inherited-root, inherited-step}
 use Rattle.table.proofs.Bits.{bit-none}
 use Rattle.leaders.specs.Leaders.{leaderOf}
@@ -28,7 +26,7 @@ use Rattle.model.proofs.First.{firstFrom-same}
 use Rattle.leaders.proofs.Keys.{agreeOn-one}
 use Rattle.filled.specs.Filled.{Filled}
 use Rattle.filled.proofs.Filled.{filled-first}
-use Rattle.climb.proofs.Within.{row-within}
+use Rattle.climb.proofs.Table.{cell-at, parent-at, parent-row-at, row-within-at, own-visible, rest-inherited}
 use Rattle.keys.specs.Column.{codeOf, agreeBy, leaderBy, LaidTable}
 
 -- the rows of table t lead to rows of table `at`, with so many columns visible there, on which they agree as the rows
@@ -69,13 +67,12 @@ agreeOn-member v k p q l =
     let on = agreeOn-is v (2 ^ k) p q in
     same-test (agreeOn v (2 ^ k) p q) (v .agree k p q) (λ t. one .0 (on .0 t)) (λ t. on .1 (one .1 t))
 
--- where the cell of row x in column i of a table stands
-cell-at : (cat : List ℕ) (at o c i x : ℕ) → o ≡ tableAt cat at → c ≡ columns cat at
+-- the code of row x in column i of a table is that of its cell
+code-at : (cat : List ℕ) (at o c i x : ℕ) → o ≡ tableAt cat at → c ≡ columns cat at
     → codeOf cat (o + 8 + 4 * i) (2 + 4 * c) x ≡ cell cat at x i
-unfolding cell rowAt
-cell-at cat at o c i x e f =
+code-at cat at o c i x e f =
     let g : o + 8 + 4 * i + x * (2 + 4 * c) ≡ o + 6 + x * (2 + 4 * c) + 2 + 4 * i = omega arith in
-    ap (u32At cat) g ∙ ap₂ (λ (o c : ℕ). u32At cat (o + 6 + x * (2 + 4 * c) + 2 + 4 * i)) e f
+    ap (u32At cat) g ∙ cell-at cat at e f x i
 
 -- rows compared on own column i of a table, by the rows of it that they lead to
 agree-by : (cat : List ℕ) (at o c i : ℕ) (reached : List ℕ) (p q : ℕ) → o ≡ tableAt cat at → c ≡ columns cat at
@@ -83,8 +80,8 @@ agree-by : (cat : List ℕ) (at o c i : ℕ) (reached : List ℕ) (p q : ℕ) �
     ≡ agreeAt cat at (inherited cat at + i) (getD reached p 0) (getD reached q 0)
 unfolding agreeBy
 agree-by cat at o c i reached p q e f =
-    ap₂ (cellsAgree (getD reached p 0) (getD reached q 0)) (cell-at cat at o c i (getD reached p 0) e f)
-    (cell-at cat at o c i (getD reached q 0) e f)
+    ap₂ (cellsAgree (getD reached p 0) (getD reached q 0)) (code-at cat at o c i (getD reached p 0) e f)
+    (code-at cat at o c i (getD reached q 0) e f)
     ∙ sym (agree-own cat at i (getD reached p 0) (getD reached q 0))
 
 module _ (cat : List ℕ) (ok : Accepted cat) {t set at above : ℕ} {reached keys : List ℕ}
@@ -92,23 +89,17 @@ module _ (cat : List ℕ) (ok : Accepted cat) {t set at above : ℕ} {reached ke
     {o c : ℕ} (e : o ≡ tableAt cat at) (f : c ≡ columns cat at) where
   -- the own columns of the table are the last of those left
   pub own-left : c ≤ above
-  own-left = omega (arith, inherited-own cat at, h .left)
+  own-left = own-visible cat at e f above (h .left)
 
   pub few-left : above ≤ columnBound
   few-left = omega (arith, accepted-visible cat ok at (h .table), h .left)
 
   left-inherited : above - c ≡ inherited cat at
-  unfolding inherited
-  left-inherited = omega (arith, h .left)
+  left-inherited = rest-inherited cat at e f above (h .left)
 
   -- the rows reached stand within the bytes
   pub rows-within : (q : ℕ) → q < rows cat t → o + 6 + getD reached q 0 * (2 + 4 * c) + (2 + 4 * c) ≤ length cat
-  rows-within q l =
-      omega (
-        arith,
-        ap₂ (λ (o c : ℕ). o + 6 + getD reached q 0 * (2 + 4 * c)) e f,
-        row-within cat ok at (getD reached q 0) (h .table) (h .exists q l),
-      )
+  rows-within q l = row-within-at cat at e f ok (getD reached q 0) (h .table) (h .exists q l)
 
   -- a leader by an own column of the table is one by the member that it is
   own-leader : (i q : ℕ) → i < c → q < rows cat t
@@ -162,16 +153,9 @@ module _ (cat : List ℕ) (ok : Accepted cat) {t set at above : ℕ} {reached ke
   has-parent : (set % 2 ^ (above - c) ≡ 0 → ⊥) → 0 < at
   has-parent some = let n = not-root some in omega arith
 
-  parent-at : (up : ℕ) → up ≡ u16At cat (o + 2) → up ≡ parent cat at
-  unfolding Catalogue.parent
-  parent-at up g = g ∙ ap (λ (o : ℕ). u16At cat (o + 2)) e
-
-  parent-row-at : (x : ℕ) → u16At cat (o + 6 + x * (2 + 4 * c)) ≡ parentRow cat at x
-  unfolding parentRow rowAt
-  parent-row-at x = ap₂ (λ (o c : ℕ). u16At cat (o + 6 + x * (2 + 4 * c))) e f
-
   pub parent-lower : (up : ℕ) → up ≡ u16At cat (o + 2) → (set % 2 ^ (above - c) ≡ 0 → ⊥) → up < at
-  parent-lower up g some = omega (arith, parent-at up g, accepted-parent cat ok at (h .table) (has-parent some))
+  parent-lower up g some =
+      omega (arith, parent-at cat at e f up g, accepted-parent cat ok at (h .table) (has-parent some))
 
   pub laying-next : (end up : ℕ) (after moved : List ℕ) → end ≡ rows cat t
       → LaidTable cat o c (above - c) reached end set 0 keys after
@@ -180,7 +164,7 @@ module _ (cat : List ℕ) (ok : Accepted cat) {t set at above : ℕ} {reached ke
       → Laying cat t set up (above - c) moved after
   laying-next end up after moved g m some u put =
       let n = not-root some in
-      let p = parent-at up u in
+      let p = parent-at cat at e f up u in
       subst (λ (up : ℕ). Laying cat t set up (above - c) moved after) (sym p) (record {
         table = omega (arith, accepted-parent cat ok at (h .table) (has-parent some), h .table);
         left = left-inherited ∙ inherited-step cat ok at (h .table) n;
@@ -192,10 +176,10 @@ module _ (cat : List ℕ) (ok : Accepted cat) {t set at above : ℕ} {reached ke
             (accepted-row cat ok at (h .table) (has-parent some) (getD reached q 0) (h .exists q l));
         agree = λ k p q l lp lq.
             h .agree k p q (omega arith) lp lq
-            ∙ agree-above cat ok at k (getD reached p 0) (getD reached q 0) (h .table) (omega (arith, left-inherited))
+            ∙ agree-above cat ok at k (h .table) (omega (arith, left-inherited)) (getD reached p 0) (getD reached q 0)
             ∙ ap₂ (agreeAt cat (parent cat at) k) (sym (leads p lp)) (sym (leads q lq));
         laid = laid-from end after g m;
       })
     where
       leads : (q : ℕ) → q < rows cat t → getD moved q 0 ≡ parentRow cat at (getD reached q 0)
-      leads q l = filled-first put q (omega arith) ∙ parent-row-at (getD reached q 0)
+      leads q l = filled-first put q (omega arith) ∙ parent-row-at cat at e f (getD reached q 0)

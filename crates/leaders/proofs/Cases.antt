@@ -1,6 +1,7 @@
 -- Leaders and keys by computation: four rows of two members.
 use Prim.Native.Nat.{ℕ, zero, suc, _-_}
 use mathlib.Core.Path.{_≡_, refl}
+use mathlib.Core.Bool.{true}
 use mathlib.Core.List.{List, [], _∷_, _++_}
 use lib.Dec.{eqb}
 use lib.ListN.{getD, replicate}
@@ -16,7 +17,13 @@ cells zero = 7 ∷ 8 ∷ 7 ∷ 8 ∷ []
 cells (suc k) = 5 ∷ 5 ∷ 6 ∷ 5 ∷ []
 
 four : View
-four = record { rows = 4; members = 2; agree = λ k p q. eqb (getD (cells k) p 0) (getD (cells k) q 0) }
+four =
+    record {
+      rows = 4;
+      members = 2;
+      agree = λ k p q. eqb (getD (cells k) p 0) (getD (cells k) q 0);
+      present = λ k p. true;
+    }
 
 leaders : View → ℕ → List ℕ
 leaders v x = leaderOf v x 0 ∷ leaderOf v x 1 ∷ leaderOf v x 2 ∷ leaderOf v x 3 ∷ []

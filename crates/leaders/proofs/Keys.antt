@@ -21,7 +21,7 @@ use Rattle.model.specs.Pair.{firstPair}
 use Rattle.model.proofs.Truth.{eqb-is, same-test}
 use Rattle.model.proofs.View.{isIn-is, without-within}
 use Rattle.model.proofs.Pair.{same-pair}
-use Rattle.table.specs.Broken.{agreeSetOf, Occurs, Table, minimalMask}
+use Rattle.table.specs.Broken.{agreeSetOf, Occurs, minimalMask}
 use Rattle.model.specs.Rights.{rightAt}
 use Rattle.table.proofs.Bits.{bit-power-same, bit-power-other}
 use Rattle.table.proofs.Table.{right-row, right-column}
@@ -30,7 +30,8 @@ use Rattle.leaders.proofs.Leaders.{same-leader}
 
 -- to have equal numbers is an equivalence
 pub numbers-equivalence : (f : ℕ → ℕ → ℕ) (n end : ℕ)
-    → Equivalence (record { rows = end; members = n; agree = λ k p q. eqb (f k p) (f k q) })
+    → Equivalence
+    (record { rows = end; members = n; agree = λ k p q. eqb (f k p) (f k q); present = λ k p. true })
 numbers-equivalence f n end = record {
   reflexive = λ k p. eqb-is (f k p) (f k p) .1 refl;
   symmetric = λ k p q t. eqb-is (f k q) (f k p) .1 (sym (eqb-is (f k p) (f k q) .0 t));
@@ -165,19 +166,6 @@ module _ {v : View} {n end : ℕ} {keys : List ℕ} (keyed : Keyed v (2 ^ n - 1)
       ap (λ (m : ℕ). setBelow m (λ k. v .agree k p q)) (keyed .members)
       ∙ setBelow-same n (λ k. v .agree k p q) (λ k. eqb (keyAt keys k p) (keyAt keys k q))
       (λ k l. keyed .same k p q l (bit-full n k l) lp lq)
-
-  below : {x : ℕ} → x < 2 ^ v .members → x < 2 ^ n
-  below {x} l = subst (λ (m : ℕ). x < 2 ^ m) (keyed .members) l
-
-  -- words that are the table of the keys are that of the view
-  pub keyed-table : (ws : List ℕ) → Table (keyView keys n end) ws → Table v ws
-  keyed-table ws table x a l h =
-      let m = keyed .members in
-      let k : a ≤ n = omega arith in
-      let t = table x a (below l) k in
-      let same = ap (λ (m : ℕ). holds v x (rightAt m a)) m
-      ∙ keyed-holds keyed x (rightAt n a) (λ k l i. bit-full n k l) (right-keyed n a k) in
-      (λ e. same ∙ t .0 e, λ e. t .1 (sym same ∙ e))
 
   -- an agree set occurs by keys exactly if it does in the view
   pub keyed-occurs : (s : ℕ) → Occurs (keyView keys n end) s ↔ Occurs v s

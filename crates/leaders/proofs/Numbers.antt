@@ -3,6 +3,7 @@
 use Prim.Native.Nat.{ℕ, _≤_, _<_}
 use mathlib.Core.Path.{_≡_, sym, subst, _∙_}
 use mathlib.Core.Logic.{_↔_}
+use mathlib.Core.Bool.{true}
 use mathlib.Core.List.{List}
 use native.Mathlib.Omega.{arith}
 use lib.Dec.{eqb}
@@ -31,7 +32,13 @@ firstSame-leader v x ws q same =
 
 -- and so it is in the view of one member on which rows agree by their numbers
 byNumber : List ℕ → View
-byNumber ws = record { rows = 0; members = 1; agree = λ k p q. eqb (getD ws p 0) (getD ws q 0) }
+byNumber ws =
+    record {
+      rows = 0;
+      members = 1;
+      agree = λ k p q. eqb (getD ws p 0) (getD ws q 0);
+      present = λ k p. true;
+    }
 
 module _ (ws : List ℕ) where
   equivalence : Equivalence (byNumber ws)

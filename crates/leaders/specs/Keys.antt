@@ -3,6 +3,7 @@
 use Prim.Native.Nat.{ℕ, _+_, _*_, _^_, _≤_, _<_}
 use mathlib.Core.Path.{_≡_}
 use mathlib.Core.List.{List}
+use mathlib.Core.Bool.{true}
 use lib.Dec.{eqb}
 use lib.ListN.{getD}
 use Rattle.columns.specs.Bound.{columnBound}
@@ -19,9 +20,16 @@ keysSize = columnBound * rowBound
 abbrev pub keyAt : List ℕ → ℕ → ℕ → ℕ
 keyAt keys k q = getD keys (k * rowBound + q) 0
 
--- keys as a view of their own: n members and so many rows, which agree where their keys are equal
+-- keys as a view of their own: n members and so many rows, which agree where their keys are equal. Keys tell nothing of
+-- cells that are missing, so here none is
 abbrev pub keyView : List ℕ → ℕ → ℕ → View
-keyView keys n end = record { rows = end; members = n; agree = λ k p q. eqb (keyAt keys k p) (keyAt keys k q) }
+keyView keys n end =
+    record {
+      rows = end;
+      members = n;
+      agree = λ k p q. eqb (keyAt keys k p) (keyAt keys k q);
+      present = λ k p. true;
+    }
 
 -- the keys are laid for the members of a set: the key of a row on a member is its leader there
 abbrev pub LaidFor : View → ℕ → List ℕ → Type 0

@@ -2,24 +2,27 @@
 -- inside a record's set.
 use Prim.Native.Nat.{ℕ, _^_, _≤_, _<_}
 use mathlib.Core.Path.{_≡_, refl, sym, subst}
-use mathlib.Core.Logic.{_↔_, _⊎_, inl, inr}
+use mathlib.Core.Logic.{_↔_, inl, inr}
 use mathlib.Core.List.{List}
 use native.Mathlib.Decide.{ℕ-discrete}
 use native.Mathlib.Omega.{arith}
 use lib.ListN.{replicate}
 use lib.Pow.{pow-pos, pow-mono}
 use Rattle.columns.specs.Set.{bit}
-use Rattle.columns.proofs.Bits.{bit-complement, bit-past}
+use Rattle.columns.proofs.Bits.{bit-complement}
+use Rattle.model.specs.View.{View, Backed}
 use Rattle.model.specs.Verify.{Inside, ContainsListed, Covered}
 use Rattle.model.specs.declared.Entry.{Entry}
 use Rattle.model.specs.declared.Evidence.{Evidence}
 use Rattle.table.specs.Words.{Above}
 use Rattle.table.proofs.Table.{member-below}
 use Rattle.planes.specs.Bits.{planeBit, PlaneFrom}
+use Rattle.planes.specs.Plane.{BackedPlane}
+use Rattle.planes.specs.Marks.{Marked}
+use Rattle.planes.proofs.Marks.{closed-wanted}
 use Rattle.evidence.specs.Lists.{Some, Each}
-use Rattle.marks.specs.Marks.{Marked, mirror, CoveredBy}
+use Rattle.marks.specs.Marks.{mirror, CoveredBy}
 use Rattle.marks.specs.Listed.{NarrowLeft, NarrowSet, LeftAt, SetAt, LeftsClosed, SetsClosed}
-use Rattle.marks.proofs.Marks.{blank-plane}
 
 -- a digit that is not 1
 pub not-one : (d : ℕ) → d < 2 → (d ≡ 1 → ⊥) → d ≡ 0
@@ -45,21 +48,6 @@ inside-mirror m x y lx ly f k e = at (member-below m x k lx e) (ℕ-discrete (bi
         let z = not-one (bit y k) (omega arith) n in
         let g = f k (omega (arith, bit-complement m y k ly h)) in
         absurd (omega (arith, bit-complement m x k lx h))
-
--- marks of wanted sets alone, closed: a set is marked exactly if it lies inside a wanted one
-closed-wanted : {Wanted : ℕ → Type 0} (m n : ℕ) (marks plane : List ℕ)
-    → ((y : ℕ) → Wanted y → y < 2 ^ m) → Marked Wanted (replicate n 0) marks → PlaneFrom m m marks plane
-    → (x : ℕ) → x < 2 ^ m → (planeBit plane x ≡ 1) ↔ ((s : ℕ) × Above x s × Wanted s)
-closed-wanted {Wanted} m n marks plane below mark fill x l = (
-  λ b. let f = fill .sound x l b in (f .0, f .2, wanted (f .0) (mark .marks (f .0) .0 (f .4))),
-  λ f.
-      let h = below (f .0) (f .2) in
-      fill .complete x (f .0) l h (f .1) (bit-past (f .0) m m h (omega arith)) (mark .marks (f .0) .1 (inr (f .2))),
-)
-  where
-    wanted : (s : ℕ) → (planeBit (replicate n 0) s ≡ 1) ⊎ Wanted s → Wanted s
-    wanted s (inl b) = absurd (omega (arith, blank-plane n s))
-    wanted s (inr w) = w
 
 pub lefts-closed : (es : List Entry) (target right m n : ℕ) (marks plane : List ℕ)
     → Each (NarrowLeft m target right) es
@@ -111,17 +99,21 @@ sets-closed rs target right m n marks plane narrow mark fill =
           );
     }
 
--- what `all_covered` promises, in words
-pub all-covered-is : (es : List Entry) (rs : List Evidence) (target right n m a : ℕ) (lefts sets : List ℕ) → n ≤ m
+-- what `all_covered` promises, in words, in any view whose backed sets are marked
+pub all-covered-is : (v : View) (es : List Entry) (rs : List Evidence) (target right n m a : ℕ)
+    (backed lefts sets : List ℕ) → n ≤ m → v .members ≡ n → BackedPlane v backed
     → LeftsClosed es target right m lefts → SetsClosed rs target right m sets
-    → ((x : ℕ) → x < 2 ^ n → CoveredBy lefts sets m a x)
-    ↔ ((x : ℕ) → x < 2 ^ n → bit x a ≡ 0 → Covered es rs target right x)
-all-covered-is es rs target right n m a lefts sets h left set = (
-  λ covered x l o. elim (covered x l o)
-      [ inl b ↦ inl (left .marks x (below x l) .0 b) | inr b ↦ inr (set .marks x (below x l) .0 b) ],
-  λ covered x l o. elim (covered x l o)
+    → ((x : ℕ) → x < 2 ^ n → CoveredBy backed lefts sets m a x)
+    ↔ ((x : ℕ) → x < 2 ^ n → bit x a ≡ 0 → Backed v x → Covered es rs target right x)
+all-covered-is v es rs target right n m a backed lefts sets h en plane left set = (
+  λ covered x l o b. elim (covered x l o (plane x (seen x l) .1 b))
+      [ inl c ↦ inl (left .marks x (below x l) .0 c) | inr c ↦ inr (set .marks x (below x l) .0 c) ],
+  λ covered x l o b. elim (covered x l o (plane x (seen x l) .0 b))
       [ inl w ↦ inl (left .marks x (below x l) .1 w) | inr w ↦ inr (set .marks x (below x l) .1 w) ],
 )
   where
+    seen : (x : ℕ) → x < 2 ^ n → x < 2 ^ v .members
+    seen x l = subst (λ (k : ℕ). x < 2 ^ k) (sym en) l
+
     below : (x : ℕ) → x < 2 ^ n → x < 2 ^ m
     below x l = omega (arith, pow-mono {i = n} {j = m} h)

@@ -1,5 +1,4 @@
 pub mod For
-pub mod Marks
 pub mod Marking
 pub mod Closed
 pub mod Reading

@@ -5,9 +5,9 @@ use mathlib.Core.Logic.{_↔_, _⊎_, inl, inr}
 use mathlib.Core.List.{List, [], _∷_, List·Memᴰ·not-nil}
 use lib.ListN.{length}
 use Rattle.planes.specs.Bits.{planeBit}
+use Rattle.planes.specs.Marks.{Marked}
 use Rattle.evidence.specs.Lists.{Some, Each}
 use Rattle.evidence.proofs.Lists.{each-first, each-others, some-cons}
-use Rattle.marks.specs.Marks.{Marked}
 
 module _ {A : Type 0} where
   -- marked now, or wanted by the rest, exactly if marked before or wanted by the whole; and the rest is fine

@@ -16,18 +16,21 @@ use Rattle.table.proofs.Bits.{bit-none}
 use Rattle.table.proofs.Reading.{next-member, above-passed}
 use Rattle.planes.specs.Bits.{planeBit}
 use Rattle.marks.specs.Marks.{mirror, CoveredBy, Alone}
+use Rattle.marks.proofs.Closed.{not-one}
 
 -- the bit read at p, the mirror of x
 pub mirror-read : (plane : List ℕ) (m x : ℕ) {p r : ℕ} → p ≡ mirror m x → r ≡ planeBit plane p
     → r ≡ planeBit plane (mirror m x)
 mirror-read plane m x e s = s ∙ ap (planeBit plane) e
 
--- a set that is not marked by its mirror is covered if it is marked itself
-pub covered-by-set : (lefts sets : List ℕ) (m a x : ℕ) {r s : ℕ} → bit x a ≡ 0 → r ≡ planeBit lefts (mirror m x)
-    → r ≡ 0 → s ≡ planeBit sets x → (eqb s 1 ≡ true) ↔ CoveredBy lefts sets m a x
-covered-by-set lefts sets m a x {s} out i z is = (
-  λ e o. inr (sym is ∙ eqb-true s 1 e),
-  λ f. elim (f out) [ inl b ↦ absurd (omega arith) | inr b ↦ eq-eqb s 1 (is ∙ b) ],
+-- a set that is marked neither by its mirror nor itself is covered if it is not backed
+pub covered-unbacked : (backed lefts sets : List ℕ) (m a x : ℕ) {b : ℕ} → bit x a ≡ 0
+    → planeBit lefts (mirror m x) ≡ 0 → planeBit sets x ≡ 0 → b ≡ planeBit backed x
+    → (eqb b 0 ≡ true) ↔ CoveredBy backed lefts sets m a x
+covered-unbacked backed lefts sets m a x {b} out left set is = (
+  λ e o i. absurd (omega (arith, eqb-true b 0 e)),
+  λ f. eq-eqb b 0 (is ∙ not-one (planeBit backed x) (omega arith)
+      (λ i. elim (f out i) [ inl c ↦ omega arith | inr c ↦ omega arith ])),
 )
 
 -- the members of x are passed one by one, the lowest first: with `left` still to pass, x without any other member is

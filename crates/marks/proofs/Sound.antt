@@ -1,4 +1,5 @@
--- Entries that are sound, by a plane that says which lefts are broken and the plane closed from the listed lefts.
+-- Entries that are sound, by planes that say which lefts are backed and which are broken, and the plane closed from the
+-- listed lefts.
 use Prim.Native.Nat.{ℕ, _^_, _<_}
 use mathlib.Core.Path.{_≡_, sym, ap, subst, _∙_}
 use mathlib.Core.Logic.{_↔_}
@@ -8,7 +9,7 @@ use native.Mathlib.Decide.{ℕ-discrete}
 use native.Mathlib.Omega.{arith}
 use Rattle.columns.specs.Set.{bit, withoutOf}
 use Rattle.columns.proofs.Bits.{bits-same, bit-without-same, bit-without-other, without-below}
-use Rattle.model.specs.Verify.{Inside, EntryFor}
+use Rattle.model.specs.Verify.{Inside, EntryFor, NoOther}
 use Rattle.model.specs.declared.Entry.{Entry}
 use Rattle.planes.specs.Bits.{planeBit}
 use Rattle.evidence.specs.Lists.{Each}
@@ -16,20 +17,30 @@ use Rattle.marks.specs.Marks.{mirror, Alone}
 use Rattle.marks.specs.Listed.{NarrowLeft, LeftsClosed, SoundBy}
 use Rattle.marks.proofs.Closed.{not-one}
 
--- an entry e, read as f, that is broken, and one that is not: it is sound if it contains no other
-module _ (broken lefts : List ℕ) (m target right : ℕ) {e f : Entry} {b : ℕ} (s : e ≡ f) (for : EntryFor target right f)
-    (is : b ≡ planeBit broken (e .left)) where
-  same : b ≡ planeBit broken (f .left)
-  same = is ∙ ap (λ (g : Entry). planeBit broken (g .left)) s
+-- an entry e, read as f, that is not backed, one that is broken, and one that is backed and not broken: it is sound if
+-- it contains no other
+module _ (backed broken lefts : List ℕ) (m target right : ℕ) {e f : Entry} (s : e ≡ f)
+    (for : EntryFor target right f) where
+  same : (plane : List ℕ) {d : ℕ} → d ≡ planeBit plane (e .left) → d ≡ planeBit plane (f .left)
+  same plane q = q ∙ ap (λ (g : Entry). planeBit plane (g .left)) s
 
-  pub broken-entry : (b ≡ 0 → ⊥) → SoundBy broken lefts m target right f → ⊥
-  broken-entry n sound = n (same ∙ sound for .0)
+  pub unbacked-entry : {b : ℕ} → b ≡ planeBit backed (e .left) → b ≡ 0
+      → SoundBy backed broken lefts m target right f → ⊥
+  unbacked-entry is z sound = omega (arith, same backed is, sound for .0)
 
-  pub unbroken-entry : {r : Bool} → b ≡ 0 → (r ≡ true) ↔ Alone lefts m (e .left)
-      → (r ≡ true) ↔ SoundBy broken lefts m target right f
-  unbroken-entry z alone = (
-    λ t i. (sym same ∙ z, subst (λ (g : Entry). Alone lefts m (g .left)) s (alone .0 t)),
-    λ sound. alone .1 (subst (λ (g : Entry). Alone lefts m (g .left)) (sym s) (sound for .1)),
+  pub broken-entry : {c : ℕ} → c ≡ planeBit broken (e .left) → (c ≡ 0 → ⊥)
+      → SoundBy backed broken lefts m target right f → ⊥
+  broken-entry q n sound = n (same broken q ∙ sound for .1)
+
+  pub unbroken-entry : {b c : ℕ} {r : Bool} → b ≡ planeBit backed (e .left) → b ≡ 1 → c ≡ planeBit broken (e .left)
+      → c ≡ 0 → (r ≡ true) ↔ Alone lefts m (e .left) → (r ≡ true) ↔ SoundBy backed broken lefts m target right f
+  unbroken-entry is o q z alone = (
+    λ t i. (
+      sym (same backed is) ∙ o,
+      sym (same broken q) ∙ z,
+      subst (λ (g : Entry). Alone lefts m (g .left)) s (alone .0 t),
+    ),
+    λ sound. alone .1 (subst (λ (g : Entry). Alone lefts m (g .left)) (sym s) (sound for .2)),
   )
 
 -- no set that is x with a member less contains a listed left: x contains none but x itself
@@ -79,22 +90,23 @@ alone-is es target right m x plane closed narrow l = (
         gone : (y : ℕ) → y ≡ x → Inside y (withoutOf x k) → ⊥
         gone y s within = omega (arith, within k (ap (λ (z : ℕ). bit z k) s ∙ i), bit-without-same x k)
 
--- what `entries_sound` promises, in words: the entries for the two are not broken, and contain no other left that is
--- listed for them
-pub sound-entries-is : (es : List Entry) (target right m : ℕ) (broken plane : List ℕ)
+-- what `entries_sound` promises, in words: the entries for the two are backed and not broken, and contain no other left
+-- that is listed for them
+pub sound-entries-is : (es : List Entry) (target right m : ℕ) (backed broken plane : List ℕ)
     → LeftsClosed es target right m plane → Each (NarrowLeft m target right) es
-    → Each (SoundBy broken plane m target right) es
-    ↔ ((e : Entry) → List·Memᴰ e es → EntryFor target right e → (planeBit broken (e .left) ≡ 0)
-    × ((f : Entry) → List·Memᴰ f es → EntryFor (e .target) (e .right) f → (f .left ≡ e .left → ⊥)
-    → Inside (f .left) (e .left) → ⊥))
-sound-entries-is es target right m broken plane closed narrow = (
+    → Each (SoundBy backed broken plane m target right) es
+    ↔ ((e : Entry) → List·Memᴰ e es → EntryFor target right e → (planeBit backed (e .left) ≡ 1)
+    × (planeBit broken (e .left) ≡ 0) × NoOther es e)
+sound-entries-is es target right m backed broken plane closed narrow = (
   λ sound e i for. (
     sound e i for .0,
-    λ f j like. alone e i for .0 (sound e i for .1) f j (like .0 ∙ for .0, like .1 ∙ for .1),
+    sound e i for .1,
+    λ f j like. alone e i for .0 (sound e i for .2) f j (like .0 ∙ for .0, like .1 ∙ for .1),
   ),
   λ words e i for. (
     words e i for .0,
-    alone e i for .1 (λ f j same. words e i for .1 f j (same .0 ∙ sym (for .0), same .1 ∙ sym (for .1))),
+    words e i for .1,
+    alone e i for .1 (λ f j same. words e i for .2 f j (same .0 ∙ sym (for .0), same .1 ∙ sym (for .1))),
   ),
 )
   where

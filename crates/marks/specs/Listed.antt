@@ -1,4 +1,4 @@
--- Listed lefts and records' sets for a target and a right, on planes (document 02, b).
+-- Listed lefts and records' sets for a target and a right, on planes (document 02, b and d).
 use Prim.Native.Nat.{ℕ, _^_, _<_}
 use mathlib.Core.Path.{_≡_}
 use mathlib.Core.Logic.{_↔_}
@@ -31,7 +31,8 @@ pub record LeftsClosed (es : List Entry) (target right m : ℕ) (plane : List �
 pub record SetsClosed (rs : List Evidence) (target right m : ℕ) (plane : List ℕ) : Type 0 where
   pub marks : (x : ℕ) → x < 2 ^ m → (planeBit plane x ≡ 1) ↔ InsideRecord rs target right x
 
--- an entry, if it is for the two, is not marked as broken, and contains no other
-abbrev pub SoundBy : List ℕ → List ℕ → ℕ → ℕ → ℕ → Entry → Type 0
-SoundBy broken lefts m target right e =
-    EntryFor target right e → (planeBit broken (e .left) ≡ 0) × Alone lefts m (e .left)
+-- an entry, if it is for the two, is marked as backed, is not marked as broken, and contains no other
+abbrev pub SoundBy : List ℕ → List ℕ → List ℕ → ℕ → ℕ → ℕ → Entry → Type 0
+SoundBy backed broken lefts m target right e =
+    EntryFor target right e
+    → (planeBit backed (e .left) ≡ 1) × (planeBit broken (e .left) ≡ 0) × Alone lefts m (e .left)

@@ -1,9 +1,8 @@
--- Sets of columns marked on a plane, and what is read off planes. Nothing here knows of a catalogue.
+-- Sets of columns on planes wide enough for them, and what is read off planes. Nothing here knows of a catalogue.
 use Prim.Native.Nat.{ℕ, _-_, _^_, _≤_}
 use mathlib.Core.Path.{_≡_}
-use mathlib.Core.Logic.{_↔_, _⊎_}
+use mathlib.Core.Logic.{_⊎_}
 use mathlib.Core.List.{List}
-use lib.ListN.{length}
 use Rattle.columns.specs.Bound.{columnBound}
 use Rattle.columns.specs.Set.{bit, withoutOf}
 use Rattle.planes.specs.Bits.{planeBit}
@@ -14,25 +13,16 @@ pub record Wide (n m : ℕ) : Type 0 where
   pub word : 5 ≤ m
   pub few : n ≤ columnBound → m ≤ columnBound
 
--- a plane has room for the sets of m columns, which fill at least one word
-pub record RoomFor (m : ℕ) (plane : List ℕ) : Type 0 where
-  pub word : 5 ≤ m
-  pub few : m ≤ columnBound
-  pub fits : 2 ^ (m - 5) ≤ length plane
-
--- the wanted sets are marked too, and no others
-pub record Marked (Wanted : ℕ → Type 0) (before after : List ℕ) : Type 0 where
-  pub marks : (y : ℕ) → (planeBit after y ≡ 1) ↔ ((planeBit before y ≡ 1) ⊎ Wanted y)
-
 -- the mirror of x: the columns of m that are not in it. So x contains y exactly if the mirror of x lies inside the
 -- mirror of y
 abbrev pub mirror : ℕ → ℕ → ℕ
 mirror m x = 2 ^ m - 1 - x
 
--- x is covered, by a plane with the mirrors of sets and a plane with sets: if a is not in it, it is marked on one of
--- the two
-abbrev pub CoveredBy : List ℕ → List ℕ → ℕ → ℕ → ℕ → Type 0
-CoveredBy lefts sets m a x = bit x a ≡ 0 → (planeBit lefts (mirror m x) ≡ 1) ⊎ (planeBit sets x ≡ 1)
+-- x is covered, by a plane with the mirrors of sets and a plane with sets: if a is not in it and it is marked on the
+-- plane of the backed sets, it is marked on one of the two
+abbrev pub CoveredBy : List ℕ → List ℕ → List ℕ → ℕ → ℕ → ℕ → Type 0
+CoveredBy backed lefts sets m a x =
+    bit x a ≡ 0 → planeBit backed x ≡ 1 → (planeBit lefts (mirror m x) ≡ 1) ⊎ (planeBit sets x ≡ 1)
 
 -- x without any one of its members is not marked on a plane with the mirrors of sets
 abbrev pub Alone : List ℕ → ℕ → ℕ → Type 0

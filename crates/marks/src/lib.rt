@@ -1,6 +1,6 @@
 // Not for callers: whether sets of columns are covered for a target and a right, by planes of bits. The lefts that are
 // listed for the two are marked at their mirrors and the sets of records at themselves; then each plane is closed over
-// smaller sets, and read.
+// smaller sets, and read. Which sets are backed is read off a plane that is handed in.
 // Relies on the definitions of `model` and `columns`, on `entries` and `evidence` for entries and records in bytes, and
 // on `planes` for the closing. Called by `soundness` and `coverage`.
 ghost use Prim.Native.Nat.{ℕ, _+_, _*_, _/_, _^_, _≤_, _<_};
@@ -12,8 +12,9 @@ ghost use Rattle.columns.specs.Bound.{columnBound};
 ghost use Rattle.model.specs.Bytes.{byteAt};
 ghost use Rattle.model.specs.Entries.{entryBytes, entryAt, entriesFrom};
 ghost use Rattle.model.specs.Evidence.{evidenceBytes, recordAt, recordsFrom};
+ghost use Rattle.planes.specs.Marks.{RoomFor, Marked};
 ghost use Rattle.evidence.specs.Lists.{Some, Each};
-ghost use Rattle.marks.specs.Marks.{Wide, RoomFor, Marked, mirror, CoveredBy, Alone};
+ghost use Rattle.marks.specs.Marks.{Wide, mirror, CoveredBy, Alone};
 ghost use Rattle.marks.specs.Listed.{NarrowLeft, NarrowSet, LeftAt, SetAt, LeftsClosed, SetsClosed, SoundBy};
 use bits::power;
 use entries::entry_from;
@@ -23,6 +24,7 @@ use model::ENTRY_BYTES;
 use model::EVIDENCE_BYTES;
 use planes::PLANE;
 use planes::bit_at;
+use planes::mark;
 
 // For how many columns a plane of sets of n columns is made: n, and at least as many as fill a word.
 pub fn wide(n: u32) -> u32
@@ -32,15 +34,6 @@ pub fn wide(n: u32) -> u32
         return 5;
     }
     n
-}
-
-// Marks the set x.
-fn mark(plane: &mut [u32], x: u32)
-    requires { ⌜ x / 32 < length (now plane) ⌝ }
-    ensures { λ r. ⌜ Marked (λ y. y ≡ x) (now (plane .entry)) (now (plane .exit)) ⌝ }
-{
-    let i = (x / 32) as usize;
-    plane[i] = plane[i] | power(x % 32);
 }
 
 // The mirror of the set x: the columns of m that are not in it.
@@ -164,10 +157,12 @@ pub fn close_sets(bytes: &[u8], count: usize, target: u32, right: u32, m: u32, p
     planes::fill(&marks, m, m, plane);
 }
 
-// Is the set x covered, if a is not in it?
-fn is_covered(lefts: &[u32], sets: &[u32], m: u32, a: u32, x: u32) -> bool
-    requires { ⌜ RoomFor m (now lefts) × RoomFor m (now sets) × (a ≤ m) × (x < 2 ^ m) ⌝ }
-    ensures { λ r. ⌜ (r ≡ true) ↔ CoveredBy (now (lefts .entry)) (now (sets .entry)) m a x ⌝ }
+// Is the set x covered, if a is not in it and it is backed? Most sets are backed and covered, so whether it is backed
+// is asked last.
+fn is_covered(backed: &[u32], lefts: &[u32], sets: &[u32], m: u32, a: u32, x: u32) -> bool
+    requires { ⌜ RoomFor m (now backed) × RoomFor m (now lefts) × RoomFor m (now sets) × (a ≤ m) × (x < 2 ^ m) ⌝ }
+    ensures { λ r. ⌜ (r ≡ true)
+        ↔ CoveredBy (now (backed .entry)) (now (lefts .entry)) (now (sets .entry)) m a x ⌝ }
 {
     if (x >> a) % 2 != 0 {
         return true;
@@ -175,19 +170,23 @@ fn is_covered(lefts: &[u32], sets: &[u32], m: u32, a: u32, x: u32) -> bool
     if bit_at(lefts, mirror(m, x)) != 0 {
         return true;
     }
-    bit_at(sets, x) == 1
+    if bit_at(sets, x) != 0 {
+        return true;
+    }
+    bit_at(backed, x) == 0
 }
 
-// Are all sets of n columns covered that a is not in?
-pub fn all_covered(lefts: &[u32], sets: &[u32], n: u32, m: u32, a: u32) -> bool
-    requires { ⌜ RoomFor m (now lefts) × RoomFor m (now sets) × (n ≤ m) × (a ≤ m) ⌝ }
+// Are all backed sets of n columns covered that a is not in?
+pub fn all_covered(backed: &[u32], lefts: &[u32], sets: &[u32], n: u32, m: u32, a: u32) -> bool
+    requires { ⌜ RoomFor m (now backed) × RoomFor m (now lefts) × RoomFor m (now sets) × (n ≤ m) × (a ≤ m) ⌝ }
     ensures { λ r. ⌜ (r ≡ true)
-        ↔ ((x : ℕ) → x < 2 ^ n → CoveredBy (now (lefts .entry)) (now (sets .entry)) m a x) ⌝ }
+        ↔ ((x : ℕ) → x < 2 ^ n
+        → CoveredBy (now (backed .entry)) (now (lefts .entry)) (now (sets .entry)) m a x) ⌝ }
 {
     let end = power(n);
     let mut x = 0;
     while x < end {
-        if !is_covered(lefts, sets, m, a, x) {
+        if !is_covered(backed, lefts, sets, m, a, x) {
             return false;
         }
         x += 1;
@@ -213,53 +212,60 @@ fn is_alone(lefts: &[u32], m: u32, x: u32) -> bool
     true
 }
 
-// If the entry at a position is for the two, is it not broken, and does it contain no other?
+// If the entry at a position is for the two, is it backed and not broken, and does it contain no other?
 fn is_sound(
     list: &[u8],
     at: usize,
     target: u32,
     right: u32,
+    backed: &[u32],
     broken: &[u32],
     lefts: &[u32],
     m: u32,
 ) -> bool
-    requires { ⌜ RoomFor m (now broken) × RoomFor m (now lefts) × NarrowLeft m target right (entryAt (now list) at)
-        × (at + entryBytes ≤ length (now list)) ⌝ }
+    requires { ⌜ RoomFor m (now backed) × RoomFor m (now broken) × RoomFor m (now lefts)
+        × NarrowLeft m target right (entryAt (now list) at) × (at + entryBytes ≤ length (now list)) ⌝ }
     ensures { λ r. ⌜ (r ≡ true)
-        ↔ SoundBy (now (broken .entry)) (now (lefts .entry)) m target right (entryAt (now (list .entry)) at) ⌝ }
+        ↔ SoundBy (now (backed .entry)) (now (broken .entry)) (now (lefts .entry)) m target right
+        (entryAt (now (list .entry)) at) ⌝ }
 {
     if !is_for(list, at, target, right) {
         return true;
     }
     let e = entry_from(list, at);
     let left = e.left as u32;
+    if bit_at(backed, left) == 0 {
+        return false;
+    }
     if bit_at(broken, left) != 0 {
         return false;
     }
     is_alone(lefts, m, left)
 }
 
-// Is each entry from a position on that is for the two not broken, and does none of them contain another?
+// Is each entry from a position on that is for the two backed and not broken, and does none of them contain another?
 pub fn entries_sound(
     list: &[u8],
     count: u32,
     first: usize,
     target: u32,
     right: u32,
+    backed: &[u32],
     broken: &[u32],
     lefts: &[u32],
     m: u32,
 ) -> bool
-    requires { ⌜ RoomFor m (now broken) × RoomFor m (now lefts) × (first + entryBytes * count ≤ length (now list))
+    requires { ⌜ RoomFor m (now backed) × RoomFor m (now broken) × RoomFor m (now lefts)
+        × (first + entryBytes * count ≤ length (now list))
         × Each (NarrowLeft m target right) (entriesFrom (now list) count first) ⌝ }
     ensures { λ r. ⌜ (r ≡ true)
-        ↔ Each (SoundBy (now (broken .entry)) (now (lefts .entry)) m target right)
+        ↔ Each (SoundBy (now (backed .entry)) (now (broken .entry)) (now (lefts .entry)) m target right)
         (entriesFrom (now (list .entry)) count first) ⌝ }
 {
     let mut at = first;
     let mut rest = count;
     while 0 < rest {
-        if !is_sound(list, at, target, right, broken, lefts, m) {
+        if !is_sound(list, at, target, right, backed, broken, lefts, m) {
             return false;
         }
         at += ENTRY_BYTES;

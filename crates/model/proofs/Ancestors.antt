@@ -1,20 +1,30 @@
 -- A table and its ancestors in an accepted catalogue: a climb that may go further than to the root comes to the same,
--- so that what a table has is what its parent has and its own columns; and on which of them two rows agree.
+-- so that what a table has is what its parent has and its own columns; on which of them two rows agree, and which of
+-- them a row has.
 use Prim.Native.Nat.{ℕ, zero, suc, _+_, _-_, _≤_, _<_}
 use mathlib.Core.Path.{_≡_, refl, sym, ap, ap₂, subst, _∙_}
 use mathlib.Core.List.{List}
-use mathlib.Core.Bool.{Bool}
+use mathlib.Core.Bool.{Bool, not}
 use native.Mathlib.Decide.{ℕ-discrete, decLt}
 use native.Mathlib.Omega.{arith}
-use Rattle.model.specs.Bounds.{tableBound}
+use lib.Dec.{eqb}
+use Rattle.model.specs.Bounds.{tableBound, missing}
 use Rattle.model.specs.Catalogue.{tables, columns, parent, parentRow, cell, visible, visibleIn, inherited}
 use Rattle.model.specs.Check.{Accepted}
-use Rattle.model.specs.Target.{owner, ownerIn, ancestor, ancestorIn, cellsAgree, agreeAt}
+use Rattle.model.specs.Target.{owner, ownerIn, ancestor, ancestorIn, cellsAgree, agreeAt, presentAt}
 use Rattle.model.proofs.Check.{accepted-tables, accepted-parent}
 use Rattle.model.proofs.Climb.{climb-ends, climb-goes-on, owner-here, owner-above, owner-over}
 use Rattle.model.proofs.Climb.{ancestor-here, ancestor-above}
 
--- what the rows x and y of table a say of visible column v
+-- does row x of table a have a cell of visible column v, and what do the rows x and y say of it?
+has : List ℕ → ℕ → ℕ → ℕ → Bool
+has cat v a x = not (eqb (cell cat a x (v - inherited cat a)) missing)
+
+present-reached : (cat : List ℕ) (table v p a : ℕ) → owner cat table v ≡ a
+    → presentAt cat table v p ≡ has cat v a (ancestor cat a table p)
+unfolding presentAt has
+present-reached cat table v p a e = ap (λ (a : ℕ). has cat v a (ancestor cat a table p)) e
+
 reached : List ℕ → ℕ → ℕ → ℕ → ℕ → Bool
 reached cat v a x y = cellsAgree x y (cell cat a x (v - inherited cat a)) (cell cat a y (v - inherited cat a))
 
@@ -22,6 +32,18 @@ agree-reached : (cat : List ℕ) (table v p q a : ℕ) → owner cat table v ≡
     → agreeAt cat table v p q ≡ reached cat v a (ancestor cat a table p) (ancestor cat a table q)
 unfolding agreeAt reached
 agree-reached cat table v p q a e = ap (λ (a : ℕ). reached cat v a (ancestor cat a table p) (ancestor cat a table q)) e
+
+-- a row has the cell of own column j as it stands there, for any bytes
+pub present-own : (cat : List ℕ) (table j p : ℕ)
+    → presentAt cat table (inherited cat table + j) p ≡ not (eqb (cell cat table p j) missing)
+unfolding owner ancestor has
+present-own cat table j p =
+    let v = inherited cat table + j in
+    let e : v - inherited cat table ≡ j = omega arith in
+    present-reached cat table v p table
+    (sym (owner-here cat tableBound table v (inherited cat table) refl (omega arith)))
+    ∙ ap (has cat v table) (sym (ancestor-here cat table tableBound table p refl))
+    ∙ ap (λ (j : ℕ). not (eqb (cell cat table p j) missing)) e
 
 -- on own column j, rows agree by their cells there, for any bytes
 pub agree-own : (cat : List ℕ) (table j p q : ℕ)
@@ -146,22 +168,42 @@ module _ (cat : List ℕ) (ok : Accepted cat) where
           subst Same (owner-here cat (suc n) table v (inherited cat table) refl (omega arith))
           (sym (ancestor-here cat table (suc n) table k refl) ∙ ancestor-here cat table m table k refl)
 
-  -- on a column of an ancestor, rows agree as their parent rows do
-  pub agree-above : (table v p q : ℕ) → table < tables cat → v < inherited cat table
-      → agreeAt cat table v p q ≡ agreeAt cat (parent cat table) v (parentRow cat table p) (parentRow cat table q)
-  unfolding owner ancestor
-  agree-above table v p q h u =
-      let above = parent cat table in
-      let l = parent-lower table h (not-root table v u) in
-      let f = accepted-tables cat ok in
-      let a = owner cat above v in
-      let up : owner cat table v ≡ a =
-      owner-above cat tableBound table v (inherited cat table) (omega arith) refl u
-      ∙ owner-fuel (tableBound - 1) tableBound above v (omega arith) (omega arith) (omega arith) in
-      let far : table ≡ a → ⊥ = λ e. omega (arith, owner-le tableBound above v (omega arith)) in
-      let leads : (k : ℕ) → ancestor cat a table k ≡ ancestor cat a above (parentRow cat table k) =
-      λ k. ancestor-above cat a tableBound table k (omega arith) far
-      ∙ sym (ancestor-fuel tableBound (tableBound - 1) above v (parentRow cat table k) (omega arith) (omega arith)
-      (omega arith)) in
-      agree-reached cat table v p q a up ∙ ap₂ (reached cat v a) (leads p) (leads q)
-      ∙ sym (agree-reached cat above v (parentRow cat table p) (parentRow cat table q) a refl)
+  -- a column of an ancestor belongs to the same table as seen from the parent, and a row reaches there the row that
+  -- its parent row reaches
+  module _ (table v : ℕ) (h : table < tables cat) (u : v < inherited cat table) where
+    owner-parent : owner cat table v ≡ owner cat (parent cat table) v
+    unfolding owner
+    owner-parent =
+        let l = parent-lower table h (not-root table v u) in
+        let f = accepted-tables cat ok in
+        owner-above cat tableBound table v (inherited cat table) (omega arith) refl u
+        ∙ owner-fuel (tableBound - 1) tableBound (parent cat table) v (omega arith) (omega arith) (omega arith)
+
+    ancestor-parent : (k : ℕ)
+        → ancestor cat (owner cat (parent cat table) v) table k
+        ≡ ancestor cat (owner cat (parent cat table) v) (parent cat table) (parentRow cat table k)
+    unfolding owner ancestor
+    ancestor-parent k =
+        let above = parent cat table in
+        let l = parent-lower table h (not-root table v u) in
+        let f = accepted-tables cat ok in
+        let far : table ≡ owner cat above v → ⊥ = λ e. omega (arith, owner-le tableBound above v (omega arith)) in
+        ancestor-above cat (owner cat above v) tableBound table k (omega arith) far
+        ∙ sym (ancestor-fuel tableBound (tableBound - 1) above v (parentRow cat table k) (omega arith) (omega arith)
+        (omega arith))
+
+    -- so rows agree on it as their parent rows do
+    pub agree-above : (p q : ℕ)
+        → agreeAt cat table v p q ≡ agreeAt cat (parent cat table) v (parentRow cat table p) (parentRow cat table q)
+    agree-above p q =
+        agree-reached cat table v p q (owner cat (parent cat table) v) owner-parent
+        ∙ ap₂ (reached cat v (owner cat (parent cat table) v)) (ancestor-parent p) (ancestor-parent q)
+        ∙ sym (agree-reached cat (parent cat table) v (parentRow cat table p) (parentRow cat table q) _ refl)
+
+    -- and a row has its cell if its parent row does
+    pub present-above : (p : ℕ)
+        → presentAt cat table v p ≡ presentAt cat (parent cat table) v (parentRow cat table p)
+    present-above p =
+        present-reached cat table v p (owner cat (parent cat table) v) owner-parent
+        ∙ ap (has cat v (owner cat (parent cat table) v)) (ancestor-parent p)
+        ∙ sym (present-reached cat (parent cat table) v (parentRow cat table p) _ refl)

@@ -26,6 +26,7 @@ use Rattle.model.specs.Listing.{ordinary, cells}
 use Rattle.model.specs.Calls.{flat, passed, written, placeCode, roomCode, callCode, runAfter, Seen, Obeys}
 use Rattle.model.specs.List.{ListMeaning, listCode}
 use Rattle.model.specs.Album.{album, noRows, oneMissing, bothMissing, equalRows, twoGroups}
+use Rattle.model.specs.Album.{parted, lostAbove}
 use Rattle.model.specs.Cases.{Cases}
 use Rattle.model.specs.declared.Entry.{Entry}
 use Rattle.model.proofs.Grounds.{orElse-none}
@@ -39,6 +40,7 @@ use Rattle.model.proofs.Replies.{question-replies, list-replies, packed
 use Rattle.model.proofs.Values.{bound-values, byte-order, refusal-numbers, answer-values}
 use Rattle.model.proofs.Text.{album-text}
 use Rattle.model.proofs.View.{holds-true, holds-false, breaks-is}
+use Rattle.model.proofs.Backed.{backed-true, backed-false}
 use Rattle.model.proofs.Pair.{firstPair-is}
 
 -- the tests on these catalogues
@@ -147,6 +149,19 @@ unlisted5 m =
     first (inl e) = other 1 2 e
     first (inr n) = second (List·Memᴰ·cases-cons n)
 
+-- where nothing is listed, no entry is
+none-listed : (cat : List ℕ) (e : Entry) → flat (cells (ordinary cat)) ≡ [] → List·Memᴰ e (flat (cells (ordinary cat)))
+    → ⊥
+none-listed cat e none m = List·Memᴰ·not-nil (subst (λ (es : List Entry). List·Memᴰ e es) none m)
+
+unlisted6 : List·Memᴰ (entry 0 0 row) (flat (cells (ordinary noRows))) → ⊥
+unfolding computes
+unlisted6 = none-listed noRows (entry 0 0 row) refl
+
+unlisted8 : List·Memᴰ (entry 0 1 row) (flat (cells (ordinary bothMissing))) → ⊥
+unfolding computes
+unlisted8 = none-listed bothMissing (entry 0 1 row) refl
+
 -- a call at the last place: there is no ground against it, and it passes nothing and writes nothing
 no-ground : {A : Type 0} (cs : List (List A)) (place budget room words : ℕ)
     → place ≡ length cs → drop place cs ≡ [] → workBound ≤ words → callCode cs place budget room words ≡ 0
@@ -193,12 +208,23 @@ cases =
       k3 = holds-true (view album 1) 6 row test3;
       k4 = holds-false (view album 0) 0 0 test4;
       k5 = (holds-true (view album 0) 1 0 test5, unlisted5);
-      k6 = holds-true (view noRows 0) 0 row test6;
+      k6 = (holds-true (view noRows 0) 0 row test6, unlisted6);
       k7 = holds-true (view oneMissing 0) 0 0 test7;
-      k8 = holds-true (view bothMissing 0) 1 row test8;
+      k8 = (holds-true (view bothMissing 0) 1 row test8, unlisted8);
       k9 = none9;
       k10 = (order10, lefts10);
       k11 = last11;
+      noRowsUnbacked = backed-false (view noRows 0) 0 refl;
+      emptyBacked = backed-true (view oneMissing 0) 0 refl;
+      oneMissingListing = refl;
+      firstBacked = backed-true (view parted 0) 1 refl;
+      secondBacked = backed-true (view parted 0) 2 refl;
+      bothUnbacked = backed-false (view parted 0) 3 refl;
+      bothKey = holds-true (view parted 0) 3 row refl;
+      partedListing = refl;
+      ownBacked = backed-true (view lostAbove 1) 2 refl;
+      aboveUnbacked = backed-false (view lostAbove 1) 1 refl;
+      lostAboveListing = refl;
       firstOfGroups = firstPair-is (view twoGroups 0) 1 1 0 4 .0 refl;
       laterSecond = breaks-is (view twoGroups 0) 1 1 0 5 .0 tt;
       lowerSecond = breaks-is (view twoGroups 0) 1 1 1 2 .0 tt;
@@ -214,6 +240,8 @@ cases =
       bothMissingAccepted = refl;
       equalRowsAccepted = refl;
       twoGroupsAccepted = refl;
+      partedAccepted = refl;
+      lostAboveAccepted = refl;
       line = line;
       fork = fork;
       depth = depth;

@@ -11,16 +11,17 @@ use Rattle.model.specs.Catalogue.{tables, trailer, tableAt, columns, par
 use Rattle.model.specs.Catalogue.{tableEnd, visible, visibleIn, inherited, sets, setsFrom}
 use Rattle.model.specs.Check.{checkCode, checkMeaning, sizeCode, trailerCode, startOf, headCode, boundCode}
 use Rattle.model.specs.Check.{parentCode, widthCode, extentCode, rowCode, tableCode, leftCode}
-use Rattle.model.specs.View.{holds, breaks, minimal, allBelow, agreeOn}
+use Rattle.model.specs.View.{holds, breaks, minimal, backed, allBelow, someBelow, agreeOn, presentOn}
 use Rattle.model.specs.First.{firstFrom}
 use Rattle.model.specs.Pair.{firstRow, secondRow, firstPair}
-use Rattle.model.specs.Target.{owner, ownerIn, ancestor, ancestorIn, cellsAgree, agreeAt}
+use Rattle.model.specs.Target.{owner, ownerIn, ancestor, ancestorIn, cellsAgree, agreeAt, presentAt}
 use Rattle.model.specs.Listing.{rightsOf, cells, cellsFrom, cellsOf, entriesOf}
 use Rattle.model.specs.Listed.{listed}
 use Rattle.model.specs.Rights.{rightAt, rightsFrom, rightsIn}
 use Rattle.model.specs.Encode.{headOf, codesOf, rowOf, trailerOf}
 use Rattle.model.specs.Encode.{rowsBytes, tableBytes, tablesBytes, startsFrom, encode}
 use Rattle.model.specs.Album.{album, noRows, oneMissing, bothMissing, equalRows, twoGroups, keyBelow}
+use Rattle.model.specs.Album.{parted, lostAbove}
 use Rattle.model.specs.Damaged.{groundsFrom, notZero, grounds, cut, noTable, children, offsetsFrom, manyTables}
 use Rattle.model.specs.Damaged.{longTrailer, lateTable, shortHead, shortRow, leftByte, manyColumns, rowsOnly}
 use Rattle.model.specs.Damaged.{manyRows, rootedRoot, ownParent, tooWide, rootedRow, unknownParentRow, smallest}
@@ -44,7 +45,7 @@ use Rattle.model.specs.Evidence.{unbroken, isTrueRecord, allIn, someIn}
 use Rattle.model.specs.Verify.{isFor, isSoundEntry, isCovered, areTrueRecords, areSoundEntries}
 use Rattle.model.specs.Verify.{areCoveredSets, recordsCode, soundCode, coverCode, evidenceCode, verifyCode}
 use Rattle.model.specs.Verify.{verifyMeaning}
-use Rattle.model.specs.Supplied.{albumList, albumRecords, albumEvidence, keyEvidence}
+use Rattle.model.specs.Supplied.{albumList, albumRecords, albumEvidence, keyEvidence, bothEvidence, lostList}
 use Rattle.model.specs.Text.{answerText, listingText, headLine, refusedLine, linesOf, entryLine, entryText}
 use Rattle.model.specs.Text.{rightText, decimal, decimalIn}
 
@@ -52,19 +53,20 @@ unfoldable pub computes : Unit {0}
 unfolding ones onesIn ifEq ifLt ifLe withoutOf inOrder bySizeFrom ofSize ofSizeFrom u16At u32At bytes2 bytes4 orElse
     firstOf replyOf wordsAfter tables trailer tableAt columns parent rows rowAt parentRow cell tableEnd visible
     visibleIn inherited sets setsFrom checkCode checkMeaning sizeCode trailerCode startOf headCode boundCode parentCode
-    widthCode extentCode rowCode tableCode leftCode holds breaks minimal allBelow agreeOn firstFrom firstRow secondRow
-    firstPair owner ownerIn ancestor ancestorIn cellsAgree agreeAt listed rightAt rightsFrom rightsIn rightsOf cells
-    cellsFrom cellsOf entriesOf headOf codesOf rowOf trailerOf rowsBytes tableBytes tablesBytes startsFrom encode album
-    noRows oneMissing bothMissing equalRows twoGroups keyBelow groundsFrom notZero grounds cut noTable children
-    offsetsFrom manyTables longTrailer lateTable shortHead shortRow leftByte manyColumns rowsOnly manyRows rootedRoot ownParent
-    tooWide rootedRow unknownParentRow smallest mostColumns mostRows widest lateAndLarge largeAndRooted
-    ownParentAndWide wideAndLong longAndRooted rowThenTable rowThenByte inLine forked below offsetsBy12 deepest memberOf
-    targetCode leftSideCode rightSideCode sidesCode wordsCode questionCode askMeaning pairMeaning passed written
-    placeCode roomCode callCode runAfter workAfter firstCode earlier tailCode bytesOf entryAt countIn distanceIn
-    entriesBytes packed entriesFrom entriesHeld frontOf entryCode laterCode restCode entriesCode outputCode packCode
-    packMeaning outputAfter readCode openMeaning entriesRead frontRead readFrom readMeaning runRead readAt emptyList
-    lostEntry recordBytes recordAt recordsBytes recordsFrom recordCount recordsHeld unbroken isTrueRecord allIn someIn
-    isFor isSoundEntry isCovered areTrueRecords areSoundEntries areCoveredSets recordsCode soundCode coverCode
-    evidenceCode verifyCode verifyMeaning withinOf albumList albumRecords albumEvidence
-    keyEvidence answerText listingText headLine refusedLine linesOf entryLine entryText rightText decimal decimalIn
+    widthCode extentCode rowCode tableCode leftCode holds breaks minimal backed allBelow someBelow agreeOn presentOn
+    firstFrom firstRow secondRow firstPair owner ownerIn ancestor ancestorIn cellsAgree agreeAt presentAt listed rightAt
+    rightsFrom rightsIn rightsOf cells cellsFrom cellsOf entriesOf headOf codesOf rowOf trailerOf rowsBytes tableBytes
+    tablesBytes startsFrom encode album noRows oneMissing bothMissing equalRows twoGroups keyBelow parted lostAbove
+    groundsFrom notZero grounds cut noTable children offsetsFrom manyTables longTrailer lateTable shortHead shortRow
+    leftByte manyColumns rowsOnly manyRows rootedRoot ownParent tooWide rootedRow unknownParentRow smallest mostColumns
+    mostRows widest lateAndLarge largeAndRooted ownParentAndWide wideAndLong longAndRooted rowThenTable rowThenByte
+    inLine forked below offsetsBy12 deepest memberOf targetCode leftSideCode rightSideCode sidesCode wordsCode
+    questionCode askMeaning pairMeaning passed written placeCode roomCode callCode runAfter workAfter firstCode earlier
+    tailCode bytesOf entryAt countIn distanceIn entriesBytes packed entriesFrom entriesHeld frontOf entryCode laterCode
+    restCode entriesCode outputCode packCode packMeaning outputAfter readCode openMeaning entriesRead frontRead readFrom
+    readMeaning runRead readAt emptyList lostEntry recordBytes recordAt recordsBytes recordsFrom recordCount recordsHeld
+    unbroken isTrueRecord allIn someIn isFor isSoundEntry isCovered areTrueRecords areSoundEntries areCoveredSets
+    recordsCode soundCode coverCode evidenceCode verifyCode verifyMeaning withinOf albumList albumRecords albumEvidence
+    keyEvidence bothEvidence lostList answerText listingText headLine refusedLine linesOf entryLine entryText rightText
+    decimal decimalIn
 computes = tt

@@ -2,6 +2,7 @@ pub mod Truth
 pub mod Grounds
 pub mod First
 pub mod View
+pub mod Backed
 pub mod Pair
 pub mod Listed
 pub mod Target

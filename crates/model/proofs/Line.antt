@@ -76,6 +76,9 @@ line =
       givesAbove = holds-true (view inLine 3) 6 3 two-up-gives;
       key = holds-true (view inLine 3) 17 row key-is;
       noKey = (holds-false (view inLine 3) 18 row key-not, key-breaks);
+      present0 = refl;
+      present1 = refl;
+      present2 = refl;
       listing = refl;
     }
 

@@ -77,6 +77,7 @@ list-replies =
       noRecord = λ work w. enough album _ refl w (record { reply = refl; run = refl; work = refl });
       refused13 = λ work w. enough inLine _ refl w (record { reply = refl; run = refl; work = refl });
       twoAtOnce = λ work w. enough inLine _ refl w (record { reply = refl; run = refl; work = refl });
+      unbacked = λ work w. enough inLine _ refl w (record { reply = refl; run = refl; work = refl });
       refused12 = λ work w. enough album _ refl w (record { reply = refl; run = refl; work = refl });
       refused11 = record { reply = refl; run = refl; work = refl };
       refused6 = record { reply = refl; run = refl; work = refl };
@@ -135,6 +136,7 @@ text-replies =
       ten = refl;
       widest = refl;
       noRowsText = refl;
+      oneMissingText = refl;
       refused1 = refl;
       refused6 = refl;
       refused16 = refl;

@@ -16,6 +16,10 @@ supplied =
       readBack = refl;
       readWide = refl;
       noEvidence = refl;
+      nothingListed = refl;
+      unlistedKey = refl;
+      backedOnly = refl;
+      unbackedRecord = refl;
       keyOfRoot = refl;
       byteLess = refl;
       byteMore = record { code = refl; alone = refl };
@@ -38,6 +42,8 @@ supplied =
       columnFirst = refl;
       entryFails = record { code = refl; alone = refl };
       containsAnother = record { code = refl; alone = refl };
+      noRowsEntry = refl;
+      unbackedEntry = record { code = refl; alone = refl };
       containsKey = record { code = refl; alone = refl };
       entryMissing = record { code = refl; alone = refl };
       keyMissing = record { code = refl; alone = refl };
@@ -50,6 +56,7 @@ supplied =
       smallerSet = record { code = refl; alone = refl };
       emptyUncovered = refl;
       keyOfRootAlone = refl;
+      backedUncovered = refl;
       first1 = refl;
       first7 = refl;
       first14 = refl;

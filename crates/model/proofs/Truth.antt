@@ -7,7 +7,7 @@ use mathlib.Core.Bool.{Bool, true, false, not, _&&_, _||_}
 use native.Mathlib.Nat.{eq-or-lt-of-le, not-suc-le-zero, le-of-suc-le-suc}
 use native.Mathlib.Omega.{arith}
 use lib.Dec.{T, eqb, eqb→eq, eqb-refl}
-use Rattle.model.specs.View.{allBelow}
+use Rattle.model.specs.View.{allBelow, someBelow}
 
 -- a test passes, or fails, as an equation
 pub is-true : {b : Bool} → T b → b ≡ true
@@ -80,3 +80,26 @@ one-fails (suc n) f h = first (one-fails n f) (decided (f n))
     first below (inl holds) =
         let r = below (λ t. h (and-is (f n) (allBelow n f) .1 (holds, t))) in
         (r .0, omega arith, r .2)
+
+-- what holds of some number below n
+pub someBelow-is : (n : ℕ) (f : ℕ → Bool) → T (someBelow n f) ↔ ((k : ℕ) × (k < n) × T (f k))
+unfolding someBelow
+someBelow-is zero f = (λ t. absurd t, λ h. absurd (not-suc-le-zero (h .1)))
+someBelow-is (suc n) f = (
+  λ t. here (someBelow-is n f .0) (or-is (f n) (someBelow n f) .0 t),
+  λ h. or-is (f n) (someBelow n f) .1
+      (there (h .0) (h .2) (someBelow-is n f .1) (eq-or-lt-of-le (le-of-suc-le-suc (h .1)))),
+)
+  where
+    here : (T (someBelow n f) → (k : ℕ) × (k < n) × T (f k)) → T (f n) ⊎ T (someBelow n f)
+        → (k : ℕ) × (k < suc n) × T (f k)
+    here below (inl t) = (n, omega arith, t)
+    here below (inr t) =
+        let r = below t in
+        let l = r .1 in
+        (r .0, omega arith, r .2)
+
+    there : (k : ℕ) → T (f k) → ((k : ℕ) × (k < n) × T (f k) → T (someBelow n f)) → (k ≡ n) ⊎ (k < n)
+        → T (f n) ⊎ T (someBelow n f)
+    there k t below (inl e) = inl (subst (λ (j : ℕ). T (f j)) e t)
+    there k t below (inr l) = inr (below (k, l, t))

@@ -1,5 +1,5 @@
--- The album catalogue of document 01, the small catalogues of its cases K6 to K9, one for the first breaking pair and
--- one for lists with evidence, as bytes.
+-- The album catalogue of document 01, the small catalogues of its cases K6 to K9, one for the first breaking pair, two
+-- for left sides that are not backed and one for lists with evidence, as bytes.
 use Prim.Native.Nat.{ℕ}
 use mathlib.Core.List.{List, [], _∷_, _++_}
 use Rattle.model.specs.Bounds.{noParent, missing}
@@ -49,6 +49,23 @@ keyBelow =
     encode
     (content 1 noParent ((noParent, 5 ∷ []) ∷ [])
     ∷ content 1 0 ((0, 7 ∷ []) ∷ (0, 8 ∷ []) ∷ [])
+    ∷ [])
+
+-- two columns and four rows, of which none has both cells: {0} and {1} are backed, {0, 1} is not
+unfoldable pub parted : List ℕ
+parted =
+    encode
+    (content 2 noParent
+    ((noParent, 1 ∷ missing ∷ []) ∷ (noParent, 1 ∷ missing ∷ []) ∷ (noParent, missing ∷ 1 ∷ [])
+    ∷ (noParent, missing ∷ 1 ∷ []) ∷ [])
+    ∷ [])
+
+-- a root with one row, whose cell is missing, and under it a table with two equal rows
+unfoldable pub lostAbove : List ℕ
+lostAbove =
+    encode
+    (content 1 noParent ((noParent, missing ∷ []) ∷ [])
+    ∷ content 1 0 ((0, 7 ∷ []) ∷ (0, 7 ∷ []) ∷ [])
     ∷ [])
 
 -- two columns and six rows: {0} does not give 1 among the rows 0, 4 and 5, nor among the rows 1 and 2

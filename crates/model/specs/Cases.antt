@@ -10,7 +10,7 @@ use Rattle.model.specs.Bounds.{workBound, row}
 use Rattle.model.specs.Reply.{refused, answered}
 use Rattle.model.specs.Catalogue.{visible}
 use Rattle.model.specs.Check.{Accepted, checkMeaning}
-use Rattle.model.specs.View.{Holds, Key, Breaks}
+use Rattle.model.specs.View.{Holds, Key, Breaks, Backed}
 use Rattle.model.specs.Pair.{FirstPair}
 use Rattle.model.specs.Target.{view}
 use Rattle.model.specs.Entry.{entry}
@@ -19,6 +19,7 @@ use Rattle.model.specs.Calls.{flat, Seen}
 use Rattle.model.specs.List.{ListMeaning}
 use Rattle.model.specs.Text.{answerText}
 use Rattle.model.specs.Album.{album, albumLines, noRows, oneMissing, bothMissing, equalRows, twoGroups}
+use Rattle.model.specs.Album.{parted, lostAbove}
 use Rattle.model.specs.Damaged.{tooWide, Damages, AtTheBounds, DamageOrder}
 use Rattle.model.specs.RefusedCalls.{RefusedQuestions, RefusedListings, RefusedLists}
 use Rattle.model.specs.Supplied.{Supplied}
@@ -38,12 +39,12 @@ pub record Cases : Type 0 where
   pub k4 : Holds (view album 0) 0 0 → ⊥
   -- K5 table 0, {0} gives 0, unlisted
   pub k5 : Holds (view album 0) 1 0 × (List·Memᴰ (entry 0 1 0) (flat (cells (ordinary album))) → ⊥)
-  -- K6 no rows: the empty set gives the row
-  pub k6 : Key (view noRows 0) 0
+  -- K6 no rows: the empty set gives the row, unlisted (document 02, d)
+  pub k6 : Key (view noRows 0) 0 × (List·Memᴰ (entry 0 0 row) (flat (cells (ordinary noRows))) → ⊥)
   -- K7 one row with a missing cell: the empty set gives its column
   pub k7 : Holds (view oneMissing 0) 0 0
-  -- K8 two rows, both cells missing: {0} gives the row
-  pub k8 : Key (view bothMissing 0) 1
+  -- K8 two rows, both cells missing: {0} gives the row, unlisted (document 02, d)
+  pub k8 : Key (view bothMissing 0) 1 × (List·Memᴰ (entry 0 1 row) (flat (cells (ordinary bothMissing))) → ⊥)
   -- K9 two equal rows under one parent, all cells present: no key
   pub k9 : (x : ℕ) → Key (view equalRows 1) x → ⊥
   -- K10 table 1, left 4 precedes left 3
@@ -51,6 +52,19 @@ pub record Cases : Type 0 where
   -- K11 place 10 returns 10 and no entry: whatever the budget and the run, with words enough
   pub k11 : (s : Seen Entry) → s .place ≡ 10 → workBound ≤ length (s .work) → ListMeaning album s
       → (s .reply ≡ answered (10 ∷ 0 ∷ 0 ∷ [])) × (s .runThen ≡ s .run)
+  -- backed left sides (document 02, d): without rows not even the empty one; of one row it is, and what it gives is
+  -- listed; {0} and {1} by different rows, and {0, 1} by none, though it is a key; below a missing cell {1} and not {0}
+  pub noRowsUnbacked : Backed (view noRows 0) 0 → ⊥
+  pub emptyBacked : Backed (view oneMissing 0) 0
+  pub oneMissingListing : flat (cells (ordinary oneMissing)) ≡ entry 0 0 0 ∷ entry 0 0 row ∷ []
+  pub firstBacked : Backed (view parted 0) 1
+  pub secondBacked : Backed (view parted 0) 2
+  pub bothUnbacked : Backed (view parted 0) 3 → ⊥
+  pub bothKey : Key (view parted 0) 3
+  pub partedListing : flat (cells (ordinary parted)) ≡ []
+  pub ownBacked : Backed (view lostAbove 1) 2
+  pub aboveUnbacked : Backed (view lostAbove 1) 1 → ⊥
+  pub lostAboveListing : flat (cells (ordinary lostAbove)) ≡ entry 0 0 0 ∷ entry 0 0 row ∷ entry 1 0 1 ∷ []
   -- of four breaking pairs the first: the lowest first row, then the lowest second row
   pub firstOfGroups : FirstPair (view twoGroups 0) 1 1 0 4
   pub laterSecond : Breaks (view twoGroups 0) 1 1 0 5
@@ -70,6 +84,8 @@ pub record Cases : Type 0 where
   pub bothMissingAccepted : Accepted bothMissing
   pub equalRowsAccepted : Accepted equalRows
   pub twoGroupsAccepted : Accepted twoGroups
+  pub partedAccepted : Accepted parted
+  pub lostAboveAccepted : Accepted lostAbove
   -- specs/Line.antt: four tables in a line, two tables under one parent, sixteen tables in a line
   pub line : Line
   pub fork : Fork

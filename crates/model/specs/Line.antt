@@ -11,7 +11,7 @@ use Rattle.model.specs.Reply.{answered}
 use Rattle.model.specs.Catalogue.{visible, inherited}
 use Rattle.model.specs.Check.{Accepted, checkMeaning}
 use Rattle.model.specs.View.{Holds, Key, Breaks}
-use Rattle.model.specs.Target.{owner, ancestor, agreeAt, view}
+use Rattle.model.specs.Target.{owner, ancestor, agreeAt, presentAt, view}
 use Rattle.model.specs.Entry.{entry}
 use Rattle.model.specs.Listing.{rightsOf, cells, ordinary}
 use Rattle.model.specs.Calls.{flat}
@@ -83,11 +83,16 @@ pub record Line : Type 0 where
   -- {0, 4} gives the row, {1, 4} doesn't, rows 0 and 1 break it
   pub key : Key (view inLine 3) 17
   pub noKey : (Key (view inLine 3) 18 → ⊥) × Breaks (view inLine 3) 18 row 0 1
+  -- which of the rows 0 to 3 have the cell of column 0, 1 and 2: by the rows reached, none; all; those whose parent has
+  -- it
+  pub present0 : map (presentAt inLine 3 0) (0 ∷ 1 ∷ 2 ∷ 3 ∷ []) ≡ false ∷ false ∷ false ∷ false ∷ []
+  pub present1 : map (presentAt inLine 3 1) (0 ∷ 1 ∷ 2 ∷ 3 ∷ []) ≡ true ∷ true ∷ true ∷ true ∷ []
+  pub present2 : map (presentAt inLine 3 2) (0 ∷ 1 ∷ 2 ∷ 3 ∷ []) ≡ true ∷ false ∷ true ∷ false ∷ []
+  -- no row below the root reaches the root row whose cell is present: {0} backs nothing there, and in the root it does
   pub listing : flat (cells (ordinary inLine))
       ≡ entry 0 1 row
-      ∷ entry 1 3 row
-      ∷ entry 2 3 2 ∷ entry 2 3 row ∷ entry 2 5 row ∷ entry 2 6 row
-      ∷ entry 3 1 3 ∷ entry 3 6 3 ∷ entry 3 17 row ∷ entry 3 20 3 ∷ entry 3 20 row ∷ entry 3 24 row
+      ∷ entry 2 6 row
+      ∷ entry 3 6 3 ∷ entry 3 20 3 ∷ entry 3 20 row ∷ entry 3 24 row
       ∷ []
 
 -- two tables under the root, and one under the first of them: the parents of tables 2 and 3 are not the tables before

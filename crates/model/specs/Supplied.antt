@@ -1,4 +1,4 @@
--- Packed lists with evidence (document 02, b): the album's list and six records, which are accepted, and what is
+-- Packed lists with evidence (document 02, b and d): the album's list and six records, which are accepted, and what is
 -- refused: for each ground of 17 to 19 a call that has no other refusal against it, the nearest that is accepted, and
 -- the order. That the right is in the set is never the only ground of 17: rows that agree on such a set agree on it.
 use Prim.Native.Nat.{ℕ}
@@ -13,7 +13,7 @@ use Rattle.model.specs.Packing.{packed}
 use Rattle.model.specs.Reading.{entriesHeld, readCode}
 use Rattle.model.specs.Evidence.{recordsBytes, recordsHeld}
 use Rattle.model.specs.Verify.{recordsCode, soundCode, coverCode, verifyCode, verifyMeaning}
-use Rattle.model.specs.Album.{album, noRows, keyBelow}
+use Rattle.model.specs.Album.{album, noRows, oneMissing, bothMissing, keyBelow, lostAbove}
 use Rattle.model.specs.Damaged.{cut, unknownParentRow}
 use Rattle.model.specs.RefusedCalls.{OnlyOf, emptyList}
 use Rattle.model.specs.declared.Entry.{Entry}
@@ -66,6 +66,14 @@ WithOnly rs = AlbumOnly albumList (recordsBytes rs)
 unfoldable pub keyEvidence : List ℕ
 keyEvidence = recordsBytes (evidence 1 1 1 0 1 ∷ evidence 1 1 row 0 1 ∷ [])
 
+-- that of two rows whose only cells are missing: {} gives neither the column nor the row
+unfoldable pub bothEvidence : List ℕ
+bothEvidence = recordsBytes (evidence 0 0 0 0 1 ∷ evidence 0 0 row 0 1 ∷ [])
+
+-- the full listing where the root's cell is missing
+unfoldable pub lostList : List ℕ
+lostList = packed (entry 0 0 0 ∷ entry 0 0 row ∷ entry 1 0 1 ∷ [])
+
 pub record Supplied : Type 0 where
   -- accepted: 3 entries and 6 records; also behind other bytes, and with the records repeated, in another order, or
   -- with rows exchanged
@@ -79,8 +87,16 @@ pub record Supplied : Type 0 where
   pub bytes : recordsBytes (evidence 1 258 3 772 1286 ∷ []) ≡ 1 ∷ 3 ∷ 2 ∷ 1 ∷ 4 ∷ 3 ∷ 6 ∷ 5 ∷ []
   pub readBack : recordsHeld albumEvidence ≡ albumRecords
   pub readWide : recordsHeld (1 ∷ 3 ∷ 2 ∷ 1 ∷ 4 ∷ 3 ∷ 6 ∷ 5 ∷ []) ≡ evidence 1 258 3 772 1286 ∷ []
-  -- without rows every right has the empty left, and no record is true
-  pub noEvidence : verifyMeaning noRows (packed (entry 0 0 0 ∷ entry 0 0 row ∷ [])) [] ≡ answered (2 ∷ 0 ∷ [])
+  -- of one row every right has the empty left, and no record is true; without rows nothing is listed
+  pub noEvidence : verifyMeaning oneMissing (packed (entry 0 0 0 ∷ entry 0 0 row ∷ [])) [] ≡ answered (2 ∷ 0 ∷ [])
+  pub nothingListed : verifyMeaning noRows emptyList [] ≡ answered (0 ∷ 0 ∷ [])
+  -- a set that is not backed needs no cover: {0} where both cells are missing, a key that is not listed; below a root
+  -- whose cell is missing {0} and {0, 1}, which fail, where {1} has a record. The record may be that of {0, 1}
+  pub unlistedKey : verifyMeaning bothMissing emptyList bothEvidence ≡ answered (0 ∷ 2 ∷ [])
+  pub backedOnly : verifyMeaning lostAbove lostList (recordsBytes (evidence 1 2 row 0 1 ∷ []))
+      ≡ answered (3 ∷ 1 ∷ [])
+  pub unbackedRecord : verifyMeaning lostAbove lostList (recordsBytes (evidence 1 3 row 0 1 ∷ []))
+      ≡ answered (3 ∷ 1 ∷ [])
   -- a left may contain one that is listed for another target
   pub keyOfRoot : verifyMeaning keyBelow (packed (entry 0 0 0 ∷ entry 0 0 row ∷ entry 1 2 row ∷ [])) keyEvidence
       ≡ answered (3 ∷ 2 ∷ [])
@@ -111,6 +127,15 @@ pub record Supplied : Type 0 where
   pub columnFirst : verifyCode album (packed (entry 1 3 row ∷ entry 1 6 row ∷ entry 1 9 2 ∷ [])) albumEvidence ≡ 18
   pub entryFails : ListedOnly (entry 1 1 2 ∷ entry 1 2 2 ∷ entry 1 3 row ∷ entry 1 6 row ∷ []) 18
   pub containsAnother : ListedOnly (entry 1 1 2 ∷ entry 1 3 2 ∷ entry 1 3 row ∷ entry 1 6 row ∷ []) 18
+  -- 18: an entry is not backed, though it holds and contains no other: without rows, and where both cells are missing
+  pub noRowsEntry : verifyCode noRows (packed (entry 0 0 row ∷ [])) [] ≡ 18
+  pub unbackedEntry : OnlyOf (verifyCode bothMissing (packed (entry 0 1 row ∷ [])) bothEvidence)
+      (checkCode bothMissing
+      ∷ readCode (packed (entry 0 1 row ∷ []))
+      ∷ recordsCode bothMissing bothEvidence
+      ∷ soundCode bothMissing (entriesHeld (packed (entry 0 1 row ∷ [])))
+      ∷ coverCode bothMissing (entriesHeld (packed (entry 0 1 row ∷ []))) (recordsHeld bothEvidence)
+      ∷ []) 18
   pub containsKey : ListedOnly (entry 1 1 2 ∷ entry 1 3 row ∷ entry 1 6 row ∷ entry 1 7 row ∷ []) 18
   -- 19: an entry is missing, or has a column too many; a record is missing, is for another right or another target, or
   -- has a set too small
@@ -127,8 +152,10 @@ pub record Supplied : Type 0 where
   pub smallerSet : WithOnly (evidence 0 0 0 0 2 ∷ evidence 0 0 row 0 1 ∷ evidence 1 5 1 0 1 ∷ evidence 1 2 2 0 2
       ∷ evidence 1 5 row 0 1 ∷ evidence 1 2 row 0 2 ∷ []) 19
   -- 19: the empty set alone is uncovered; what would cover is listed for another target
-  pub emptyUncovered : verifyCode noRows (packed (entry 0 0 row ∷ [])) [] ≡ 19
+  pub emptyUncovered : verifyCode oneMissing (packed (entry 0 0 row ∷ [])) [] ≡ 19
   pub keyOfRootAlone : verifyCode keyBelow (packed (entry 0 0 0 ∷ entry 0 0 row ∷ [])) keyEvidence ≡ 19
+  -- 19: a record of a set that is not backed does not cover a backed one
+  pub backedUncovered : verifyCode lostAbove lostList (recordsBytes (evidence 1 1 row 0 1 ∷ [])) ≡ 19
   -- the order: the catalogue, then the list, then 17, 18 and 19
   pub first1 : verifyMeaning cut [] (0 ∷ []) ≡ refused 1
   pub first7 : verifyMeaning unknownParentRow [] (0 ∷ []) ≡ refused 7

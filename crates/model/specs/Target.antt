@@ -1,5 +1,6 @@
--- A row of a target with the ancestor rows that its parent numbers lead to, and what two such rows agree on
--- ("Agreement"; a tree tuple of source 004's Definition 5 without the descendants, and Definitions 6 to 8).
+-- A row of a target with the ancestor rows that its parent numbers lead to, what two such rows agree on ("Agreement";
+-- a tree tuple of source 004's Definition 5 without the descendants, and Definitions 6 to 8), and which cells such a
+-- row has (document 02, d; the second clause of Definition 9).
 use Prim.Native.Nat.{ℕ, zero, suc, _-_, _^_}
 use mathlib.Core.List.{List}
 use mathlib.Core.Bool.{Bool, true, false, not, _&&_, _||_}
@@ -39,9 +40,23 @@ agreeAt cat target v p q =
     let y = ancestor cat a target q in
     cellsAgree x y (cell cat a x c) (cell cat a y c)
 
--- the target as a view: its rows, its visible columns, and agreement on them
+-- the cell of visible column v is present in row p of a target: that of the row reached in the column's table is not
+-- missing
+unfoldable pub presentAt : List ℕ → ℕ → ℕ → ℕ → Bool
+presentAt cat target v p =
+    let a = owner cat target v in
+    let c = v - inherited cat a in
+    not (eqb (cell cat a (ancestor cat a target p) c) missing)
+
+-- the target as a view: its rows, its visible columns, agreement on them, and which cells are present
 abbrev pub view : List ℕ → ℕ → View
-view cat target = record { rows = rows cat target; members = visible cat target; agree = agreeAt cat target }
+view cat target =
+    record {
+      rows = rows cat target;
+      members = visible cat target;
+      agree = agreeAt cat target;
+      present = presentAt cat target;
+    }
 
 -- the right sides of a target as a mask over its visible columns and the row: its own columns, by their visible
 -- numbers, and the row

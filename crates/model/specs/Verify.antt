@@ -1,6 +1,6 @@
--- The check of a packed list by evidence (document 02, b): when an entry is sound and a set is covered, in the words
--- of the document and beside it as tests that compute, refusals 17 to 19, and what the call replies. That words and
--- tests say the same is shown in proofs/Tests.antt of `evidence`.
+-- The check of a packed list by evidence (document 02, b and d): when an entry is sound and a set is covered, in the
+-- words of the document and beside it as tests that compute, refusals 17 to 19, and what the call replies. That words
+-- and tests say the same is shown in proofs/Tests.antt of `evidence`.
 use Prim.Native.Nat.{ℕ, _^_}
 use mathlib.Core.Path.{_≡_}
 use mathlib.Core.Logic.{_⊎_}
@@ -13,7 +13,7 @@ use Rattle.model.specs.Refusal.{number, orElse}
 use Rattle.model.specs.Reply.{Reply, replyOf}
 use Rattle.model.specs.Catalogue.{tables, visible}
 use Rattle.model.specs.Check.{checkCode}
-use Rattle.model.specs.View.{In, Holds, isIn, holds, allBelow}
+use Rattle.model.specs.View.{In, Holds, Backed, isIn, holds, backed, allBelow}
 use Rattle.model.specs.Target.{view}
 use Rattle.model.specs.Question.{sidesCode}
 use Rattle.model.specs.Listing.{ordinary, rightsOf}
@@ -41,16 +41,18 @@ NoOther es e =
     (f : Entry) → List·Memᴰ f es → EntryFor (e .target) (e .right) f → (f .left ≡ e .left → ⊥)
     → Inside (f .left) (e .left) → ⊥
 
--- an entry of a list is sound: it does not fall under 8 to 10, it holds, and it contains no other
+-- an entry of a list is sound: it does not fall under 8 to 10, it is backed, it holds, and it contains no other
 pub record SoundEntry (cat : List ℕ) (es : List Entry) (e : Entry) : Type 0 where
   pub allowed : sidesCode cat (e .target) (e .left) (e .right) ≡ 0
+  pub backed : Backed (view cat (e .target)) (e .left)
   pub holds : Holds (view cat (e .target)) (e .left) (e .right)
   pub alone : NoOther es e
 
--- what must be covered: a target, a set and a right of it, the set without that right
+-- what must be covered: a target, a set and a right of it, the set backed and without that right
 pub record Candidate (cat : List ℕ) (target x right : ℕ) : Type 0 where
   pub allowed : sidesCode cat target x right ≡ 0
   pub outside : In right x → ⊥
+  pub backed : Backed (view cat target) x
 
 -- a set is covered for a target and a right: it contains a left listed for the two, or lies inside the set of a record
 -- for the two
@@ -84,9 +86,10 @@ isFor target right t a = eqb t target && eqb a right
 unfoldable pub isSoundEntry : List ℕ → List Entry → Entry → Bool
 isSoundEntry cat es e =
     eqb (sidesCode cat (e .target) (e .left) (e .right)) 0
+    && (backed (view cat (e .target)) (e .left)
     && (holds (view cat (e .target)) (e .left) (e .right)
     && not (someIn (λ f. isFor (e .target) (e .right) (f .target) (f .right)
-    && (not (eqb (f .left) (e .left)) && withinOf (f .left) (e .left))) es))
+    && (not (eqb (f .left) (e .left)) && withinOf (f .left) (e .left))) es)))
 
 unfoldable pub isCovered : List Entry → List Evidence → ℕ → ℕ → ℕ → Bool
 isCovered es rs target right x =
@@ -102,7 +105,7 @@ areSoundEntries cat es = allIn (isSoundEntry cat es) es
 unfoldable pub areCoveredSets : List ℕ → List Entry → List Evidence → Bool
 areCoveredSets cat es rs =
     allBelow (tables cat) (λ target. allIn (λ right. allBelow (2 ^ visible cat target) (λ x. isIn right x
-    || isCovered es rs target right x)) (rightsOf (ordinary cat) target))
+    || (not (backed (view cat target) x) || isCovered es rs target right x))) (rightsOf (ordinary cat) target))
 
 -- 17: a record is not true
 unfoldable pub recordsCode : List ℕ → List ℕ → ℕ

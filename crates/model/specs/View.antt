@@ -1,9 +1,10 @@
--- Agreement, dependency, key and minimal ("Agreement", and demand 2), over what a target shows of itself: how many
--- rows, how many members a left side may have, and which rows agree on a member. Propositions in the words of the
--- document, and beside them tests that compute; proofs/View.antt shows that the two say the same.
+-- Agreement, dependency, key and minimal ("Agreement", and demand 2), and backed (document 02, d), over what a target
+-- shows of itself: how many rows, how many members a left side may have, which rows agree on a member, and which have
+-- its cell. Propositions in the words of the document, and beside them tests that compute; proofs/View.antt and
+-- proofs/Backed.antt show that the two say the same.
 use Prim.Native.Nat.{ℕ, zero, suc, _<_}
 use mathlib.Core.Path.{_≡_}
-use mathlib.Core.Bool.{Bool, true, not, _&&_, _||_}
+use mathlib.Core.Bool.{Bool, true, false, not, _&&_, _||_}
 use lib.Dec.{T, eqb, ltb}
 use Rattle.columns.specs.Set.{bit, withoutOf}
 use Rattle.columns.specs.Test.{pick}
@@ -14,6 +15,8 @@ pub record View : Type 0 where
   pub members : ℕ
   -- do two rows agree on a member?
   pub agree : ℕ → ℕ → ℕ → Bool
+  -- is the cell of a member present in a row?
+  pub present : ℕ → ℕ → Bool
 
 -- agreement on each member is an equivalence of rows
 pub record Equivalence (v : View) : Type 0 where
@@ -66,10 +69,24 @@ pub record Least (v : View) (x a : ℕ) : Type 0 where
   pub outside : In a x → ⊥
   pub least : (y : ℕ) → Within v y x → (k : ℕ) → k < v .members → In k x → (In k y → ⊥) → Holds v y a → ⊥
 
--- the tests: what holds of every number below n
+-- in a row all cells of a left side are present: that of each member
+abbrev pub PresentOn : View → ℕ → ℕ → Type 0
+PresentOn v x p = (k : ℕ) → k < v .members → In k x → T (v .present k p)
+
+-- a left side is backed if in some row all its cells are present
+pub record Backed (v : View) (x : ℕ) : Type 0 where
+  pub witness : ℕ
+  pub exists : witness < v .rows
+  pub present : PresentOn v x witness
+
+-- the tests: what holds of every number below n, and of some
 unfoldable pub allBelow : ℕ → (ℕ → Bool) → Bool
 allBelow zero f = true
 allBelow (suc n) f = f n && allBelow n f
+
+unfoldable pub someBelow : ℕ → (ℕ → Bool) → Bool
+someBelow zero f = false
+someBelow (suc n) f = f n || someBelow n f
 
 -- column k is in the left side x
 abbrev pub isIn : ℕ → ℕ → Bool
@@ -88,3 +105,9 @@ breaks v x a p q = ltb p q && (ltb q (v .rows) && (agreeOn v x p q && not (agree
 unfoldable pub minimal : View → ℕ → ℕ → Bool
 minimal v x a =
     holds v x a && (not (isIn a x) && allBelow (v .members) (λ k. not (isIn k x) || not (holds v (withoutOf x k) a)))
+
+unfoldable pub presentOn : View → ℕ → ℕ → Bool
+presentOn v x p = allBelow (v .members) (λ k. not (isIn k x) || v .present k p)
+
+unfoldable pub backed : View → ℕ → Bool
+backed v x = someBelow (v .rows) (presentOn v x)

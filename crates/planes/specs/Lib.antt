@@ -1,2 +1,3 @@
 pub mod Bits
+pub mod Marks
 pub mod Plane

@@ -1,11 +1,11 @@
 -- What planes say of a view ("Agreement", and demand 2): the seeds are the agree sets of its pairs of rows, and the
--- plane of a right says which left sides do not give it.
-use Prim.Native.Nat.{ℕ, _-_, _^_, _<_}
+-- plane of a right says which left sides do not give it, and another which are backed (document 02, d).
+use Prim.Native.Nat.{ℕ, _+_, _-_, _^_, _<_}
 use mathlib.Core.Path.{_≡_}
 use mathlib.Core.Logic.{_↔_}
 use mathlib.Core.Bool.{false}
 use mathlib.Core.List.{List}
-use Rattle.model.specs.View.{View, Equivalence, holds}
+use Rattle.model.specs.View.{View, Equivalence, holds, Backed}
 use Rattle.table.specs.Broken.{Occurs}
 use Rattle.model.specs.Rights.{rightAt}
 use Rattle.planes.specs.Bits.{planeBit}
@@ -32,3 +32,11 @@ pub record Sown (v : View) (n : ℕ) (ws : List ℕ) : Type 0 where
 abbrev pub Plane : View → ℕ → List ℕ → Type 0
 Plane v a ws =
     (x : ℕ) → x < 2 ^ v .members → (planeBit ws x ≡ 1) ↔ (holds v x (rightAt (v .members) a) ≡ false)
+
+-- the plane of backed left sides: the bit of x is 1 exactly if x is backed; and the same plane behind the seeds of n
+-- members
+abbrev pub BackedPlane : View → List ℕ → Type 0
+BackedPlane v ws = (x : ℕ) → x < 2 ^ v .members → (planeBit ws x ≡ 1) ↔ Backed v x
+
+abbrev pub BackedBehind : View → ℕ → List ℕ → Type 0
+BackedBehind v n ws = (x : ℕ) → x < 2 ^ n → (planeBit ws (2 ^ n + x) ≡ 1) ↔ Backed v x

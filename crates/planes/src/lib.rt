@@ -1,7 +1,8 @@
 // Not for callers: planes of bits, one for each left side, where there is no room for a word for each. The seeds are
-// the agree sets, and a plane says for one right which left sides do not give it.
-// Relies on the definitions of `model` and `columns`, and on `table` for the closing. Called by `blocks`,
-// `marks` and `soundness`; `scan` makes the seeds.
+// the agree sets, and a plane says for one right which left sides do not give it, or of sets that are marked which left
+// sides lie inside one.
+// Relies on the definitions of `model` and `columns`, and on `table` for the closing. Called by `blocks`, `marks`,
+// `presence`, `rights` and `soundness`; `scan` makes the seeds.
 ghost use Prim.Native.Nat.{_-_, _/_, _^_, _≤_, _<_};
 ghost use mathlib.Core.Path.{_≡_};
 ghost use mathlib.Core.Bool.{true};
@@ -9,6 +10,7 @@ ghost use mathlib.Core.Logic.{_↔_};
 ghost use lib.ListN.{length};
 ghost use Rattle.columns.specs.Bound.{columnBound};
 ghost use Rattle.table.specs.Words.{Narrow};
+ghost use Rattle.planes.specs.Marks.{Marked};
 ghost use Rattle.planes.specs.Bits.{planeBit, clearOf, SelectedWord, ClosedWord, PlaneFrom};
 use bits::power;
 
@@ -72,6 +74,15 @@ pub fn bit_at(plane: &[u32], x: u32) -> u32
     ensures { λ r. ⌜ r ≡ planeBit (now (plane .entry)) x ⌝ }
 {
     (plane[(x / 32) as usize] >> (x % 32)) % 2
+}
+
+// Marks the set x.
+pub fn mark(plane: &mut [u32], x: u32)
+    requires { ⌜ x / 32 < length (now plane) ⌝ }
+    ensures { λ r. ⌜ Marked (λ y. y ≡ x) (now (plane .entry)) (now (plane .exit)) ⌝ }
+{
+    let i = (x / 32) as usize;
+    plane[i] = plane[i] | power(x % 32);
 }
 
 // Is right a minimal for the left side x, by the plane of a? It goes over the members of x, the lowest first.

@@ -1,9 +1,9 @@
 -- The words written from the bytes that say which agree sets occur, one after the other, and what they are for a view
 -- that the keys are right for.
-use Prim.Native.Nat.{ℕ, _+_, _-_, _*_, _^_, _≤_, _<_}
+use Prim.Native.Nat.{ℕ, suc, _+_, _-_, _*_, _^_, _≤_, _<_}
 use mathlib.Core.Path.{_≡_, refl, sym, ap, subst, _∙_}
 use mathlib.Core.Logic.{_↔_}
-use mathlib.Core.Bool.{Bool}
+use mathlib.Core.Bool.{Bool, true, false}
 use mathlib.Core.List.{List}
 use native.Mathlib.Numerals.{add-one}
 use native.Mathlib.Omega.{arith}
@@ -17,16 +17,16 @@ use Rattle.columns.specs.Set.{setBelow}
 use Rattle.columns.specs.Test.{pick}
 use Rattle.model.specs.View.{View, Equivalence}
 use Rattle.model.proofs.Truth.{eqb-is}
-use Rattle.table.specs.Words.{word, Closed}
-use Rattle.table.specs.Broken.{Occurs, Table}
+use Rattle.table.specs.Words.{word}
+use Rattle.table.specs.Broken.{Occurs, brokenBy, Scanned}
 use Rattle.table.proofs.Scan.{noted-scanned}
-use Rattle.table.proofs.Table.{scanned-closed-table}
 use Rattle.planes.specs.Bits.{planeWord}
 use Rattle.planes.specs.Plane.{seedWords, SeedsBelow, Sown}
 use Rattle.planes.proofs.Bits.{power-words}
 use Rattle.planes.proofs.Seeds.{gathered-seeds, sown-kept}
+use Rattle.planes.proofs.Backed.{two-planes}
 use Rattle.leaders.specs.Keys.{keyView, Keyed}
-use Rattle.leaders.proofs.Keys.{key-equivalence, keyed-table, keyed-occurs}
+use Rattle.leaders.proofs.Keys.{keyed-occurs}
 use Rattle.scan.specs.SeenSets.{SeenSets, seenAt, brokenWord}
 use Rattle.lines.proofs.Lines.{or-next}
 use Rattle.filled.specs.Filled.{Filled}
@@ -75,9 +75,9 @@ gathering-all {seen} {i} {j} l h =
 pub seed-inside : (n i e : ℕ) → 5 ≤ n → n ≤ columnBound → e ≡ 2 ^ (n - 5) → i < e → i * 32 < 2 ^ columnBound
 seed-inside n i e h b is l = omega (arith, power-words n h, pow-mono {i = n} {j = columnBound} b)
 
--- no pair is cached: the count behind the seeds is 0
-pub none-cached : (n m : ℕ) (ws : List ℕ) → m ≡ seedWords n → m + 4 ≤ length ws
-    → word (set ws (m + 1) 0) (seedWords n + 1) ≡ 0
+-- no pair is cached: the count behind the seeds and a plane of as many words is 0
+pub none-cached : (n m : ℕ) (ws : List ℕ) → m ≡ 2 ^ (n - 4) → m + 4 ≤ length ws
+    → word (set ws (m + 1) 0) (2 ^ (n - 4) + 1) ≡ 0
 none-cached n m ws is l =
     subst (λ (k : ℕ). word (set ws (m + 1) 0) (k + 1) ≡ 0) is (getD-set-same ws (m + 1) 0 0 (omega arith))
 
@@ -88,34 +88,47 @@ module _ {keys seen : List ℕ} {n end : ℕ} (seen-is : SeenSets keys n end see
       let is = eqb-is (word seen s) 1 in
       (λ t. seen-is .occurs s .0 (is .0 t), λ f. is .1 (seen-is .occurs s .1 f))
 
-  -- written and closed, the words are the table
-  pub built : {before mid after : List ℕ} → n ≤ columnBound → Filled 0 (2 ^ n) (brokenWord seen n) before mid
-      → Closed n mid after → (v : View) → Keyed v (2 ^ n - 1) n end keys → Table v after
-  built {before} {mid} {after} few written closed v keyed =
-      keyed-table keyed after
-      (scanned-closed-table (keyView keys n end) mid after (key-equivalence keys n end) few
-      (noted-scanned (keyView keys n end) (seenAt seen) mid (λ s l. tests s) (filled-first written)) closed)
+  -- for a view that the keys are right for
+  for-view : (v : View) → Keyed v (2 ^ n - 1) n end keys → (s : ℕ) → T (seenAt seen s) ↔ Occurs v s
+  for-view v keyed s =
+      let by = tests s in
+      let same = keyed-occurs keyed s in
+      (λ t. same .0 (by .0 t), λ f. by .1 (same .1 f))
+
+  -- written, the words are scanned
+  pub written-scanned : {before after : List ℕ} → Filled 0 (2 ^ n) (brokenWord seen n) before after
+      → (v : View) → Keyed v (2 ^ n - 1) n end keys → Scanned v after
+  written-scanned {before} {after} written v keyed =
+      noted-scanned v (seenAt seen) after (λ s l. for-view v keyed s)
+      (λ s l.
+      filled-first written s (omega (arith, ap (λ (m : ℕ). 2 ^ m) (keyed .members)))
+      ∙ ap (λ (m : ℕ). pick (seenAt seen s) (brokenBy m s) 0) (sym (keyed .members)))
+
+  -- and none has a bit above that of the row
+  pub written-small : {before after : List ℕ} → Filled 0 (2 ^ n) (brokenWord seen n) before after
+      → (s : ℕ) → s < 2 ^ n → word after s < 2 ^ suc n
+  written-small written s l =
+      subst (λ (w : ℕ). w < 2 ^ suc n) (sym (filled-first written s l)) (at (seenAt seen s))
+    where
+      at : (t : Bool) → pick t (brokenBy n s) 0 < 2 ^ suc n
+      at true = omega (arith, pow-pos (suc n))
+      at false = pow-pos (suc n)
 
   -- gathered, they are the seeds
   pub sown-among : {before after : List ℕ} (m : ℕ) → 5 ≤ m
       → Filled 0 (seedWords m) (planeWord (seenAt seen)) before after
       → (v : View) → Keyed v (2 ^ n - 1) n end keys → SeedsBelow v m after
   sown-among {before} {after} m h written v keyed =
-      gathered-seeds v m (seenAt seen) after (λ s l. for-view s)
+      gathered-seeds v m (seenAt seen) after (λ s l. for-view v keyed s)
       (λ i l. filled-first written i (omega (arith, power-words m h)))
-    where
-      for-view : (s : ℕ) → T (seenAt seen s) ↔ Occurs v s
-      for-view s =
-          let by = tests s in
-          let same = keyed-occurs keyed s in
-          (λ t. same .0 (by .0 t), λ f. by .1 (same .1 f))
 
 -- they stay the seeds, whatever is stored behind them
-pub sown : {keys : List ℕ} {n end : ℕ} (mid : List ℕ) (m : ℕ) → 5 ≤ n → m ≡ seedWords n
+pub sown : {keys : List ℕ} {n end : ℕ} (mid : List ℕ) (m : ℕ) → 5 ≤ n → m ≡ 2 ^ (n - 4)
     → ((v : View) → Keyed v (2 ^ n - 1) n end keys → SeedsBelow v n mid)
     → (v : View) → Keyed v (2 ^ n - 1) n end keys → Equivalence v → Sown v n (set mid (m + 1) 0)
 sown {keys} {n} mid m h is seeds v keyed eq =
-    sown-kept v n mid (set mid (m + 1) 0) h (λ i k. getD-set-other mid (m + 1) i 0 0 (λ u. omega arith))
+    sown-kept v n mid (set mid (m + 1) 0) h
+    (λ i k. getD-set-other mid (m + 1) i 0 0 (λ u. omega (arith, two-planes n h)))
     (record {
       members = keyed .members;
       equivalence = eq;

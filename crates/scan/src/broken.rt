@@ -1,10 +1,11 @@
-// The table of broken rights: what each agree set that occurs breaks, closed over smaller left sides.
-ghost use Prim.Native.Nat.{_-_, _^_, _≤_};
+// What each agree set that occurs breaks: the words of the table of broken rights, before they are closed.
+ghost use Prim.Native.Nat.{ℕ, suc, _-_, _^_, _≤_, _<_};
 ghost use lib.ListN.{length};
 ghost use Rattle.columns.specs.Bound.{columnBound};
 ghost use Rattle.model.specs.Bounds.{rowBound};
 ghost use Rattle.model.specs.View.{View};
-ghost use Rattle.table.specs.Broken.{Table};
+ghost use Rattle.table.specs.Words.{word};
+ghost use Rattle.table.specs.Broken.{Scanned};
 ghost use Rattle.leaders.specs.Keys.{Keyed};
 ghost use Rattle.filled.specs.Filled.{Filled};
 ghost use Rattle.scan.specs.SeenSets.{brokenWord};
@@ -13,7 +14,6 @@ use crate::pairs::if_seen;
 use crate::pairs::occurring;
 use bits::power;
 use leaders::SIZE;
-use table::close;
 
 // Writes what each agree set that is seen breaks.
 fn write_broken(seen: &[u8; SETS], n: u32, words: &mut [u32])
@@ -29,14 +29,14 @@ fn write_broken(seen: &[u8; SETS], n: u32, words: &mut [u32])
     }
 }
 
-// The table of broken rights of the view that the keys are laid for: bit a of word x is 1 exactly if the left side x
-// does not give right a.
-pub fn build(keys: &[u16; SIZE], n: u32, end: usize, words: &mut [u32])
+// The words of the view that the keys are laid for, not yet closed: at each agree set that occurs the rights that are
+// not in it. No word has a bit above that of the row.
+pub fn write(keys: &[u16; SIZE], n: u32, end: usize, words: &mut [u32])
     requires { ⌜ (n ≤ columnBound) × (end ≤ rowBound) × (2 ^ n ≤ length (now words)) ⌝ }
-    ensures { λ _. ⌜ ((v : View) → Keyed v (2 ^ n - 1) n end (now (keys .entry)) → Table v (now (words .exit))) ⌝ }
+    ensures { λ _. ⌜ ((s : ℕ) → s < 2 ^ n → word (now (words .exit)) s < 2 ^ suc n)
+        × ((v : View) → Keyed v (2 ^ n - 1) n end (now (keys .entry)) → Scanned v (now (words .exit))) ⌝ }
 {
     let mut seen = [0; SETS];
     occurring(keys, n, end, &mut seen);
     write_broken(&seen, n, words);
-    close(words, n);
 }

@@ -59,16 +59,16 @@ pub fn sow_among(keys: &[u16; SIZE], n: u32, m: u32, end: usize, words: &mut [u3
     write_seeds(&seen, m, words);
 }
 
-// The seeds among the sets of members, with no rights cached behind them. It does not call `sow_among`: a listing's
-// stack has no room for a second array of agree sets beside that of `build`.
+// The seeds among the sets of members, with no rights cached behind them and the plane that follows them. It does not
+// call `sow_among`: a listing's stack has no room for a second array of agree sets beside that of `write`.
 pub fn sow(keys: &[u16; SIZE], n: u32, end: usize, words: &mut [u32])
-    requires { ⌜ (5 ≤ n) × (n ≤ columnBound) × (end ≤ rowBound) × (seedWords n + 4 ≤ length (now words)) ⌝ }
+    requires { ⌜ (5 ≤ n) × (n ≤ columnBound) × (end ≤ rowBound) × (2 ^ (n - 4) + 4 ≤ length (now words)) ⌝ }
     ensures { λ _. ⌜ ((v : View) → Keyed v (2 ^ n - 1) n end (now (keys .entry)) → Equivalence v
         → Sown v n (now (words .exit))) ⌝ }
-    ensures { λ _. ⌜ word (now (words .exit)) (seedWords n + 1) ≡ 0 ⌝ }
+    ensures { λ _. ⌜ word (now (words .exit)) (2 ^ (n - 4) + 1) ≡ 0 ⌝ }
 {
     let mut seen = [0; SETS];
     occurring(keys, n, end, &mut seen);
     write_seeds(&seen, n, words);
-    words[power(n - 5) as usize + 1] = 0;
+    words[power(n - 4) as usize + 1] = 0;
 }

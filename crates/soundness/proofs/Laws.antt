@@ -9,14 +9,14 @@ use Rattle.columns.specs.Bound.{columnBound}
 use Rattle.model.specs.Bounds.{row}
 use Rattle.model.specs.Catalogue.{tables, visible, inherited}
 use Rattle.model.specs.Rights.{rightAt}
-use Rattle.model.specs.View.{View, Holds, Equivalence, holds}
+use Rattle.model.specs.View.{View, Holds, Backed, Equivalence, holds}
 use Rattle.model.specs.Target.{view}
 use Rattle.model.specs.Verify.{EntryFor, NoOther, SoundEntry}
 use Rattle.model.specs.declared.Entry.{Entry}
 use Rattle.model.proofs.Rights.{rightAt-row, rightAt-column}
 use Rattle.model.proofs.View.{holds-true, holds-false}
 use Rattle.planes.specs.Bits.{planeBit, PlaneFrom}
-use Rattle.planes.specs.Plane.{SeedsBelow, Plane}
+use Rattle.planes.specs.Plane.{SeedsBelow, Plane, BackedPlane}
 use Rattle.planes.proofs.Plane.{seeds-filled-plane}
 use Rattle.leaders.specs.Keys.{Keyed}
 use Rattle.evidence.specs.Lists.{Each}
@@ -43,33 +43,40 @@ unbroken-is v a plane x is l = (
     at false e z = absurd (omega (arith, is x l .1 e))
 
 -- what the planes say of the entries for a right
-pub sound-in : (v : View) (es : List Entry) (target n m a right : ℕ) (seeds broken lefts : List ℕ) {r : Bool} → n ≤ m
-    → n ≤ columnBound → a ≤ n → right ≡ rightAt n a → LeftsWithin n target es
+pub sound-in : (v : View) (es : List Entry) (target n m a right : ℕ) (seeds backed broken lefts : List ℕ) {r : Bool}
+    → n ≤ m → n ≤ columnBound → a ≤ n → right ≡ rightAt n a → LeftsWithin n target es
     → PlaneFrom m a seeds broken → LeftsClosed es target right m lefts
-    → (r ≡ true) ↔ Each (SoundBy broken lefts m target right) es
-    → v .members ≡ n → Equivalence v → SeedsBelow v m seeds → (r ≡ true) ↔ SoundIn v es target (rightAt n a)
-sound-in v es target n m a right seeds broken lefts {r} nm few an er narrow fill closed is en eq sown =
+    → (r ≡ true) ↔ Each (SoundBy backed broken lefts m target right) es
+    → v .members ≡ n → Equivalence v → SeedsBelow v m seeds → BackedPlane v backed
+    → (r ≡ true) ↔ SoundIn v es target (rightAt n a)
+sound-in v es target n m a right seeds backed broken lefts {r} nm few an er narrow fill closed is en eq sown there =
     subst (λ (b : ℕ). (r ≡ true) ↔ SoundIn v es target b) er (
       λ t e i for.
           let w = words .0 (is .0 t) e i for in
-          (holds e i for .0 (w .0), w .1),
-      λ h. is .1 (words .1 (λ e i for. let w = h e i for in (holds e i for .1 (w .0), w .1))),
+          (there (e .left) (below e i for) .0 (w .0), holds e i for .0 (w .1), w .2),
+      λ h. is .1 (words .1 (λ e i for.
+          let w = h e i for in
+          (there (e .left) (below e i for) .1 (w .0), holds e i for .1 (w .1), w .2))),
     )
   where
     plane : Plane v a broken
     plane = seeds-filled-plane v m a seeds broken eq (omega arith) (omega arith) (omega arith) sown fill
 
-    words : Each (SoundBy broken lefts m target right) es
-        ↔ ((e : Entry) → List·Memᴰ e es → EntryFor target right e → (planeBit broken (e .left) ≡ 0) × NoOther es e)
-    words = sound-entries-is es target right m broken lefts closed (lefts-narrow n m target right es nm narrow)
+    words : Each (SoundBy backed broken lefts m target right) es
+        ↔ ((e : Entry) → List·Memᴰ e es → EntryFor target right e → (planeBit backed (e .left) ≡ 1)
+        × (planeBit broken (e .left) ≡ 0) × NoOther es e)
+    words =
+        sound-entries-is es target right m backed broken lefts closed (lefts-narrow n m target right es nm narrow)
+
+    below : (e : Entry) → List·Memᴰ e es → EntryFor target right e → e .left < 2 ^ v .members
+    below e i for = subst (λ (k : ℕ). e .left < 2 ^ k) (sym en) (narrow e i (for .0))
 
     holds : (e : Entry) → List·Memᴰ e es → EntryFor target right e
         → (planeBit broken (e .left) ≡ 0) ↔ Holds v (e .left) right
     holds e i for =
-        let l : e .left < 2 ^ v .members = subst (λ (k : ℕ). e .left < 2 ^ k) (sym en) (narrow e i (for .0)) in
         let b : rightAt (v .members) a ≡ right = ap (λ (k : ℕ). rightAt k a) en ∙ sym er in
         subst (λ (c : ℕ). (planeBit broken (e .left) ≡ 0) ↔ Holds v (e .left) c) b
-        (unbroken-is v a broken (e .left) plane l)
+        (unbroken-is v a broken (e .left) plane (below e i for))
 
 -- in a catalogue: where the target allows the sides of its entries, they are sound exactly if they are for each right
 module _ (cat : List ℕ) (target : ℕ) (es : List Entry) where
@@ -93,7 +100,10 @@ module _ (cat : List ℕ) (target : ℕ) (es : List Entry) where
       → ((a : ℕ) → a < n + 1 → low ≤ a → SoundIn (view cat target) es target (rightAt n a)) ↔ SoundFor cat target es
   fitting n low en el known few ln fits = (
     λ sound e i is. made e i is (right-of e (fits e i is .1)) sound,
-    λ sound a l u e i for. let s = sound e i (for .0) in (held e (for .0) (for .1) (s .holds), s .alone),
+    λ sound a l u e i for.
+        let s = sound e i (for .0) in
+        let there = subst (λ (t : ℕ). Backed (view cat t) (e .left)) (for .0) (s .backed) in
+        (there, held e (for .0) (for .1) (s .holds), s .alone),
   )
     where
       held : (e : Entry) → e .target ≡ target → {b : ℕ} → e .right ≡ b
@@ -116,9 +126,10 @@ module _ (cat : List ℕ) (target : ℕ) (es : List Entry) where
           record {
             allowed = sides-own cat (e .target) (e .left) (e .right) .1
                 (subst (λ (t : ℕ). t < tables cat) (sym is) known, wide-left e is (f .0), wide-right e is (f .1));
+            backed = subst (λ (t : ℕ). Backed (view cat t) (e .left)) (sym is) (s .0);
             holds = subst (λ (t : ℕ). Holds (view cat t) (e .left) (e .right)) (sym is)
-                (subst (λ (c : ℕ). Holds (view cat target) (e .left) c) (sym (w .3)) (s .0));
-            alone = s .1;
+                (subst (λ (c : ℕ). Holds (view cat target) (e .left) c) (sym (w .3)) (s .1));
+            alone = s .2;
           }
         where
           wide-left : (e : Entry) → e .target ≡ target → e .left < 2 ^ n → e .left < 2 ^ visible cat (e .target)
@@ -135,10 +146,11 @@ pub keyed-end : (v : View) {set n end rows : ℕ} {keys : List ℕ} → end ≡ 
     → Keyed v set n end keys
 keyed-end v {set} {n} {keys = keys} e keyed = subst (λ (m : ℕ). Keyed v set n m keys) (sym e) keyed
 
--- the entries for the right of bit a are sound, in every view that the seeds are of
-abbrev pub SoundAt : List Entry → ℕ → ℕ → ℕ → List ℕ → ℕ → Type 0
-SoundAt es target n m seeds a =
-    (v : View) → v .members ≡ n → Equivalence v → SeedsBelow v m seeds → SoundIn v es target (rightAt n a)
+-- the entries for the right of bit a are sound, in every view that the seeds and the backed lefts are of
+abbrev pub SoundAt : List Entry → ℕ → ℕ → ℕ → List ℕ → List ℕ → ℕ → Type 0
+SoundAt es target n m seeds backed a =
+    (v : View) → v .members ≡ n → Equivalence v → SeedsBelow v m seeds → BackedPlane v backed
+    → SoundIn v es target (rightAt n a)
 
 -- entries that fit have narrow lefts
 pub fits-narrow : {n low target : ℕ} {es : List Entry} → Each (FitsFor n low target) es → LeftsWithin n target es

@@ -1,8 +1,8 @@
--- When the entries of a list that are for a target are sound, step by step.
+-- When the entries of a list that are for a target are sound, step by step (document 02, b and d).
 use Prim.Native.Nat.{ℕ}
 use mathlib.Core.Path.{_≡_}
 use mathlib.Core.List.{List}
-use Rattle.model.specs.View.{View, Holds}
+use Rattle.model.specs.View.{View, Holds, Backed}
 use Rattle.model.specs.Verify.{EntryFor, NoOther, SoundEntry}
 use Rattle.model.specs.declared.Entry.{Entry}
 use Rattle.evidence.specs.Lists.{Each}
@@ -12,9 +12,10 @@ use Rattle.evidence.specs.Sides.{SidesFit}
 abbrev pub FitsFor : ℕ → ℕ → ℕ → Entry → Type 0
 FitsFor n low target e = e .target ≡ target → SidesFit n low (e .left) (e .right)
 
--- the entries for a target and a right hold in a view, and contain no other
+-- the entries for a target and a right are backed and hold in a view, and contain no other
 abbrev pub SoundIn : View → List Entry → ℕ → ℕ → Type 0
-SoundIn v es target right = Each (λ e. EntryFor target right e → Holds v (e .left) right × NoOther es e) es
+SoundIn v es target right =
+    Each (λ e. EntryFor target right e → Backed v (e .left) × Holds v (e .left) right × NoOther es e) es
 
 -- the entries for a target are sound
 abbrev pub SoundFor : List ℕ → ℕ → List Entry → Type 0

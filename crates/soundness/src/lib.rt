@@ -1,7 +1,9 @@
-// Not for callers: are the entries of a list that are for a target sound? That they hold comes from one scan of the
-// target's rows; that they contain no other listed left is read off the plane of the listed lefts, one right at a time.
-// Relies on `evidence` for the sides that a target allows, on `keys` and `scan` for the agree sets that occur, on
-// `planes` and `marks` for the planes, and on `layout` for how many rows and columns there are. Called by `verify`.
+// Not for callers: are the entries of a list that are for a target sound? That they are backed comes from the cells
+// that are present, and that they hold from one scan of the target's rows; that they contain no other listed left is
+// read off the plane of the listed lefts, one right at a time.
+// Relies on `evidence` for the sides that a target allows, on `presence` for the backed lefts, on `keys` and `scan` for
+// the agree sets that occur, on `planes` and `marks` for the planes, and on `layout` for how many rows and columns
+// there are. Called by `verify`.
 ghost use Prim.Native.Nat.{ℕ, _+_, _*_, _≤_, _<_};
 ghost use mathlib.Core.Path.{_≡_};
 ghost use mathlib.Core.Bool.{true};
@@ -14,10 +16,10 @@ ghost use Rattle.model.specs.Entries.{entryBytes, entriesFrom};
 ghost use Rattle.model.specs.Rights.{rightAt};
 ghost use Rattle.model.specs.Target.{view};
 ghost use Rattle.model.specs.View.{View, Equivalence};
-ghost use Rattle.planes.specs.Plane.{SeedsBelow};
+ghost use Rattle.planes.specs.Marks.{RoomFor};
+ghost use Rattle.planes.specs.Plane.{SeedsBelow, BackedPlane};
 ghost use Rattle.evidence.specs.Lists.{Each};
 ghost use Rattle.evidence.specs.Sides.{LeftsWithin};
-ghost use Rattle.marks.specs.Marks.{RoomFor};
 ghost use Rattle.soundness.specs.Sound.{FitsFor, SoundIn, SoundFor};
 use entries::entry_from;
 use evidence::sides_fit;
@@ -32,6 +34,7 @@ use marks::wide;
 use model::ENTRY_BYTES;
 use model::Entry;
 use planes::PLANE;
+use presence::backed_plane;
 use scan::sow_among;
 use table::right_at;
 
@@ -106,11 +109,13 @@ fn right_sound(
     m: u32,
     a: u32,
     seeds: &[u32],
+    backed: &[u32],
 ) -> bool
-    requires { ⌜ (n ≤ m) × (n ≤ columnBound) × (a ≤ n) × RoomFor m (now seeds)
+    requires { ⌜ (n ≤ m) × (n ≤ columnBound) × (a ≤ n) × RoomFor m (now seeds) × RoomFor m (now backed)
         × (first + entryBytes * count ≤ length (now list))
         × LeftsWithin n target (entriesFrom (now list) count first) ⌝ }
     ensures { λ r. ⌜ ((v : View) → v .members ≡ n → Equivalence v → SeedsBelow v m (now (seeds .entry))
+        → BackedPlane v (now (backed .entry))
         → (r ≡ true) ↔ SoundIn v (entriesFrom (now (list .entry)) count first) target (rightAt n a)) ⌝ }
 {
     let right = right_at(n, a);
@@ -118,7 +123,17 @@ fn right_sound(
     planes::fill(seeds, m, a, &mut broken);
     let mut lefts = [0; PLANE];
     close_lefts(list, count, first, target, right, m, &mut lefts);
-    entries_sound(list, count, first, target, right, &broken, &lefts, m)
+    entries_sound(
+        list,
+        count,
+        first,
+        target,
+        right,
+        backed,
+        &broken,
+        &lefts,
+        m,
+    )
 }
 
 // Are those sound that are for the target and one of its rights?
@@ -131,17 +146,19 @@ fn rights_sound(
     m: u32,
     low: u32,
     seeds: &[u32],
+    backed: &[u32],
 ) -> bool
-    requires { ⌜ (n ≤ m) × (n ≤ columnBound) × (low ≤ n) × RoomFor m (now seeds)
+    requires { ⌜ (n ≤ m) × (n ≤ columnBound) × (low ≤ n) × RoomFor m (now seeds) × RoomFor m (now backed)
         × (first + entryBytes * count ≤ length (now list))
         × LeftsWithin n target (entriesFrom (now list) count first) ⌝ }
     ensures { λ r. ⌜ ((v : View) → v .members ≡ n → Equivalence v → SeedsBelow v m (now (seeds .entry))
+        → BackedPlane v (now (backed .entry))
         → (r ≡ true) ↔ ((a : ℕ) → a < n + 1 → low ≤ a
         → SoundIn v (entriesFrom (now (list .entry)) count first) target (rightAt n a))) ⌝ }
 {
     let mut a = low;
     while a <= n {
-        if !right_sound(list, count, first, target, n, m, a, seeds) {
+        if !right_sound(list, count, first, target, n, m, a, seeds, backed) {
             return false;
         }
         a += 1;
@@ -164,5 +181,7 @@ pub fn target_sound(cat: &[u8], target: u32, list: &[u8], count: u32, first: usi
     let m = wide(n);
     let mut seeds = [0; PLANE];
     sow(cat, target, n, m, &mut seeds);
-    rights_sound(list, count, first, target, n, m, low, &seeds)
+    let mut backed = [0; PLANE];
+    backed_plane(cat, target, n, m, &mut backed);
+    rights_sound(list, count, first, target, n, m, low, &seeds, &backed)
 }

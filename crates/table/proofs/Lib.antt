@@ -5,3 +5,4 @@ pub mod Reading
 pub mod Replacing
 pub mod Scan
 pub mod Table
+pub mod Backed

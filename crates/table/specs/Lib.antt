@@ -1,2 +1,3 @@
 pub mod Words
 pub mod Broken
+pub mod Backed

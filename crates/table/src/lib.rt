@@ -1,8 +1,9 @@
 // Not for callers: the table of broken rights, one word for each left side, bit a for right a. A scan notes what each
 // agree set breaks, `close` carries it to every smaller left side, and `minimal_rights` reads a left side's rights
-// off the closed words. `right_at` is the right that a bit stands for.
+// off the closed words. A bit above those of the rights, that of what is backed, may stand in them too. `right_at` is
+// the right that a bit stands for.
 // Relies on the definitions of `model` and `columns`, and on `filled` for words that are rewritten in a run. Called
-// by `planes`, `partition`, `scan`, `rights`, `steps`, `soundness` and `coverage`.
+// by `planes`, `partition`, `rights`, `steps`, `soundness` and `coverage`.
 ghost use Prim.Native.Nat.{ℕ, _+_, _%_, _^_, _≤_, _<_};
 ghost use mathlib.Core.Path.{_≡_};
 ghost use mathlib.Core.Logic.{_↔_};

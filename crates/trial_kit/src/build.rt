@@ -75,12 +75,14 @@ pub fn recode(b: &mut [u8], row: u32, code: u32) {
     put4(b, 8 + 66 * row as usize, code);
 }
 
-// A row of n columns, with the code 0 in the members of a set and no code in the others.
+// A row of n columns, with the code 0 in the members of a set, and in the others its position, a code that no other row
+// has.
 fn marked(b: &mut [u8], at: usize, n: u32, set: ColumnSet) -> usize {
+    let own = offset(at);
     let mut next = put2(b, at, 65535);
     let mut k = 0;
     while k < n {
-        let code = if set.member(k) { 0 } else { 4294967295 };
+        let code = if set.member(k) { 0 } else { own };
         next = put4(b, next, code);
         k += 1;
     }
@@ -95,8 +97,8 @@ fn spared(b: &mut [u8], at: usize, n: u32, set: ColumnSet, k: u32) -> usize {
     at
 }
 
-// One table of n columns, in which a set has entries: a row with codes in the set alone, and for each member one with
-// codes in the others alone. The set is a key; with a member less it is none, and gives no column that the set lacks.
+// One table of n columns, in which a set has entries: a row with the code 0 in the set alone, and for each member one
+// with it in the others alone. The set is a key; with a member less it is none, and gives no column that the set lacks.
 pub fn keyed(b: &mut [u8], n: u32, set: ColumnSet) -> usize {
     let mut next = put2(b, 0, n);
     next = put2(b, next, 65535);

@@ -10,6 +10,9 @@ use sizes::trial_sizes;
 use steps::trial_steps;
 use trial_kit::ALBUM;
 use trial_kit::EMPTY;
+use trial_kit::LONE;
+use trial_kit::MISSING_TWICE;
+use trial_kit::THREE;
 
 // The whole listing, at the least and at the largest budget.
 fn whole() {
@@ -49,6 +52,15 @@ fn runs() {
     trial(b"run of 4", &ALBUM, 0, 10, 4);
 }
 
+// Cells that are missing: what K7 says is listed, and K8's key is not, in a call for all sets and in one for its set.
+// Of three tables in a line, whose root has a missing cell, all that is listed.
+fn missing() {
+    trial(b"K7", &LONE, 0, 2, 2);
+    trial(b"K8", &MISSING_TWICE, 0, 2, 2);
+    trial(b"K8, budget 1", &MISSING_TWICE, 1, 1, 2);
+    trial(b"three tables", &THREE, 0, 4294967295, 64);
+}
+
 // Work words around the bound, and which ground comes first.
 fn grounds() {
     trial_on(b"16383 words", &ALBUM, 0, 10, 4, 16383);
@@ -66,6 +78,7 @@ fn main() {
     places();
     budgets();
     runs();
+    missing();
     grounds();
     trial_sizes();
     trial_steps();

@@ -65,12 +65,21 @@ fn wide(bytes: &mut [u8]) {
     trial_front(b"16 columns, place 65537", bytes, n, 65537, 1, 17);
 }
 
-// No rows: the empty set has every right, 17 entries. They fit, or miss by one.
+// One row: the empty set has every right, 17 entries. They fit, or miss by one.
 fn fit(bytes: &mut [u8]) {
-    let n = flat(bytes, 16, 0);
+    let n = flat(bytes, 16, 1);
     trial_front(b"17 entries, run of 17", bytes, n, 0, 2, 17);
     trial_front(b"17 entries, run of 16", bytes, n, 0, 2, 16);
     trial_front(b"17 entries, run of 16, budget 0", bytes, n, 0, 0, 16);
+}
+
+// Tables without rows, of one column (K6) and of 16: they have their sets, and list nothing.
+fn none(bytes: &mut [u8]) {
+    let mut n = flat(bytes, 1, 0);
+    trial_front(b"K6", bytes, n, 0, 2, 2);
+    n = flat(bytes, 16, 0);
+    trial_front(b"16 columns, no rows", bytes, n, 0, 65536, 17);
+    trial_front(b"16 columns, no rows, budget 1", bytes, n, 0, 1, 17);
 }
 
 // 4,096 and 4,097 rows of one column, which is a key.
@@ -97,6 +106,7 @@ fn all(bytes: &mut [u8]) {
     visible(bytes);
     wide(bytes);
     fit(bytes);
+    none(bytes);
     rows(bytes);
     tables(bytes);
 }

@@ -1,6 +1,6 @@
 // The check of a packed list by evidence: what it accepts is the full listing of the catalogue, whoever made it. The
-// catalogue is checked first, then the list, then all records, all entries and all sets, target by target. It brings
-// its own memory.
+// catalogue is checked first, then the list, then all records, all entries and all backed sets, target by target. It
+// brings its own memory.
 // Relies on `grounds` and `packed` for what stands against the catalogue and the list, on `records`, `soundness` and
 // `coverage` for the records, entries and sets of one target, on `layout` for how many tables there are, and on
 // `refusals` for the refusal that has a number. `acceptance` has the theorems about what it accepts. Called by hosts
@@ -69,7 +69,7 @@ fn entries_sound(cat: &[u8], list: &[u8], count: u32, first: usize) -> bool
     true
 }
 
-// 19: is every set covered, where all entries are sound and all records true?
+// 19: is every backed set covered, where all entries are sound and all records true?
 fn sets_covered(
     cat: &[u8],
     list: &[u8],

@@ -1,12 +1,13 @@
 //! A supplier's list with evidence, before it is bytes, and what may be wrong with it.
 
 use crate::packed;
-use compare::evidence::{self, Record, RECORD_BYTES};
+use compare::evidence::{self, Failing, Record, RECORD_BYTES};
 use compare::random::{self, Layout, Random};
 use compare::simple::{self, Catalogue, Entry, Table, COLUMNS, ROW, ROWS, TABLES};
 use compare::table;
 
-/// A catalogue, a list behind bytes of the caller, and evidence.
+/// A catalogue, a list behind bytes of the caller, and evidence; and the entries that the list lacks since no row backs
+/// them.
 #[derive(Clone)]
 pub struct Supply {
     pub layout: Layout,
@@ -14,6 +15,7 @@ pub struct Supply {
     pub front: Vec<u8>,
     pub entries: Vec<Entry>,
     pub records: Vec<Record>,
+    pub withheld: Vec<Entry>,
 }
 
 /// The three files that the check is lent.
@@ -25,11 +27,12 @@ pub struct Files {
 }
 
 impl Supply {
-    /// The full listing of a sound catalogue with its evidence.
+    /// The full listing of a sound catalogue with its evidence, for the backed sets.
     pub fn of(layout: Layout) -> Supply {
         let catalogue = simple::check(&layout.file).expect("a sound catalogue");
-        let (entries, records) = (table::listing(&catalogue), table::evidence(&catalogue));
-        Supply { layout, catalogue, front: Vec::new(), entries, records }
+        let (entries, records) = (table::listing(&catalogue), table::evidence(&catalogue, Failing::Backed));
+        let withheld = table::withheld(&catalogue);
+        Supply { layout, catalogue, front: Vec::new(), entries, records, withheld }
     }
 
     pub fn files(&self) -> Files {
@@ -57,6 +60,30 @@ impl Supply {
         self.entries.dedup();
     }
 
+    /// The same with an entry more, in listing order.
+    pub fn with_entry(&self, entry: Entry) -> Supply {
+        let mut supply = self.clone();
+        supply.entries.push(entry);
+        supply.put_in_order();
+        supply
+    }
+
+    /// The same with a record of each set with a column less in the place of a record: its set alone lies inside none
+    /// any more, if it lay inside that record alone.
+    pub fn lowered(&self, i: usize) -> Supply {
+        let mut supply = self.clone();
+        let record = supply.records.remove(i);
+        let members = (0..COLUMNS).filter(|k| record.set & 1 << k != 0);
+        supply.records.extend(members.map(|k| Record { set: record.set & !(1 << k), ..record }));
+        supply
+    }
+
+    /// Whether a row backs the set of a record.
+    pub fn is_backed(&self, i: usize) -> bool {
+        let Record { target, set, .. } = self.records[i];
+        simple::backed(&self.catalogue, target as usize, set as u32)
+    }
+
     /// An entry in the place of another, or beside it, in listing order.
     fn place(&mut self, random: &mut Random, i: usize, entry: Entry) {
         if random.once_in(2) {
@@ -71,10 +98,12 @@ impl Supply {
 /// Alters a supply; the second one is of another catalogue.
 type Damage = fn(&mut Random, &mut Supply, &Supply);
 
-const DAMAGES: [Damage; 31] = [
+const DAMAGES: [Damage; 34] = [
     drop_entry,
     drop_all_entries,
     add_entry,
+    add_withheld,
+    exchange_withheld,
     double_entry,
     exchange_entries,
     spare_column,
@@ -85,6 +114,7 @@ const DAMAGES: [Damage; 31] = [
     other_list,
     other_list_beside,
     drop_record,
+    drop_unbacked_records,
     repeat_record,
     shuffle_records,
     reverse_rows,
@@ -193,6 +223,18 @@ fn add_entry(random: &mut Random, supply: &mut Supply, _: &Supply) {
     supply.put_in_order();
 }
 
+/// An entry that holds, is minimal and has a left side that no row backs.
+fn add_withheld(random: &mut Random, supply: &mut Supply, _: &Supply) {
+    let Some(i) = any(random, &supply.withheld) else { return };
+    *supply = supply.with_entry(supply.withheld[i]);
+}
+
+/// The same in the place of one that is listed.
+fn exchange_withheld(random: &mut Random, supply: &mut Supply, other: &Supply) {
+    drop_entry(random, supply, other);
+    add_withheld(random, supply, other);
+}
+
 /// All columns but the right.
 fn outside(right: u8) -> u16 {
     if (right as usize) < COLUMNS {
@@ -288,6 +330,15 @@ fn other_list_beside(_: &mut Random, supply: &mut Supply, other: &Supply) {
 fn drop_record(random: &mut Random, supply: &mut Supply, _: &Supply) {
     let Some(i) = any(random, &supply.records) else { return };
     supply.records.remove(i);
+}
+
+/// All records of sets that no row backs. Of the sets inside them some may be backed.
+fn drop_unbacked_records(_: &mut Random, supply: &mut Supply, _: &Supply) {
+    let Supply { catalogue, records, .. } = supply;
+    let known = |target: usize| target < catalogue.tables.len();
+    records.retain(|Record { target, set, .. }| {
+        !known(*target as usize) || simple::backed(catalogue, *target as usize, *set as u32)
+    });
 }
 
 fn repeat_record(random: &mut Random, supply: &mut Supply, _: &Supply) {

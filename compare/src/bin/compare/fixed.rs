@@ -1,24 +1,36 @@
 //! Fixed cases before the random ones: the album, its packed list and its evidence throughout, small catalogues with
-//! their evidence, catalogues at and past the bounds, and large ones that are made to break a dependency.
+//! their evidence, small ones with missing cells throughout, wide ones with missing cells, catalogues at and past the
+//! bounds, and large ones that are made to break a dependency.
 
 use crate::catalogues::{check, damaged};
 use crate::trial::{Outcome, Trial, MANY_WORDS};
-use crate::{listings, packed, pairs, questions, supplied};
+use crate::{listings, packed, pairs, questions, supplied, withheld};
 use compare::lent::Placed;
 use compare::random::{album, Draft, DraftTable, Layout, Random};
-use compare::simple::{self, COLUMNS, MISSING, NO_PARENT, ROWS, WORK_WORDS};
+use compare::simple::{self, Entry, COLUMNS, MISSING, NO_PARENT, ROW, ROWS, WORK_WORDS};
+use compare::unfilled;
 
 /// So many lists with a damage are checked by evidence on each catalogue at the bounds.
 const SUPPLIED: usize = 16;
+/// The same on each wide catalogue with missing cells, and so many of its withheld entries are listed around.
+const WIDE_SUPPLIED: usize = 4;
+const WITHHELD: usize = 20;
 
 pub fn run(trial: &mut Trial) -> Outcome {
-    sound_album(trial)?;
+    throughout(trial, &album().file())?;
     damaged_album(trial)?;
     packed_album(trial)?;
     supplied::every(trial, album().layout())?;
     for (columns, rows) in [(0, 0), (0, 2), (1, 1), (1, 2), (4, 3), (5, 4), (6, 4)] {
         supplied::every(trial, flat_draft(columns, rows).layout())?;
     }
+    for catalogue in unfilled::small() {
+        let layout = catalogue.draft.layout();
+        let named = |difference: String| format!("{}: {difference}", catalogue.name);
+        throughout(trial, &layout.file).map_err(named)?;
+        supplied::every(trial, layout).map_err(named)?;
+    }
+    wide_unfilled(trial)?;
     for (columns, rows) in [(16, 0), (16, 1), (16, 3), (17, 1), (0, ROWS), (0, ROWS + 1), (2, ROWS), (2, ROWS + 1)] {
         flat(trial, columns, rows)?;
     }
@@ -28,16 +40,65 @@ pub fn run(trial: &mut Trial) -> Outcome {
     wide(trial)
 }
 
-/// Every question and every call on the album, with each number of words at its bound.
-fn sound_album(trial: &mut Trial) -> Outcome {
-    let file = album().file();
-    trial.file = file.clone();
-    let placed = Placed::new(&file, &mut trial.random);
-    let catalogue = check(trial, &placed)?.map_err(|refusal| format!("the album is refused: {refusal:?}"))?;
+/// Every question and every call on a small catalogue, with each number of words at its bound.
+fn throughout(trial: &mut Trial, file: &[u8]) -> Outcome {
+    trial.file = file.to_vec();
+    let placed = Placed::new(file, &mut trial.random);
+    let catalogue = check(trial, &placed)?.map_err(|refusal| format!("a sound file is refused: {refusal:?}"))?;
     questions::every(trial, &placed, &catalogue, &[WORK_WORDS - 1, WORK_WORDS])?;
     let listing = simple::full_listing(&catalogue);
     listings::every(trial, &placed, &listing, 4, &[WORK_WORDS - 1, WORK_WORDS, MANY_WORDS])?;
-    packed::listing(trial, &file, &listing.concat())
+    withheld::run(trial, &placed, &catalogue, &listing, 1)?;
+    packed::listing(trial, file, &listing.concat())
+}
+
+/// Tables of 14 to 16 visible columns with missing cells: with few words the library lists 14 columns by its table and
+/// more by planes. Lists of the widest are checked by evidence.
+fn wide_unfilled(trial: &mut Trial) -> Outcome {
+    for columns in [14, 15, 16] {
+        for (name, draft, listing) in [
+            ("all cells but one", but_one(columns, false), Some(but_one_listing(columns, false))),
+            ("all cells but one, and a whole row", but_one(columns, true), Some(but_one_listing(columns, true))),
+            ("cells in one half of the columns", unfilled::halves(columns, 24), None),
+            ("rows above without cells", unfilled::rows_above(&[(3, 6), (4, 8), (4, 12), (columns - 11, 24)]), None),
+        ] {
+            let named = |difference: String| format!("{columns} columns, {name}: {difference}");
+            let layout = draft.layout();
+            wide_listing(trial, &layout.file, listing).map_err(named)?;
+            if columns == COLUMNS {
+                supplied::large(trial, layout, WIDE_SUPPLIED).map_err(named)?;
+            }
+        }
+    }
+    Ok(())
+}
+
+fn but_one(columns: usize, whole: bool) -> Draft {
+    Draft { tables: vec![unfilled::but_one(columns, whole)] }
+}
+
+/// Its full listing, told by how it is made: the full set is the only key, and only a whole row backs it.
+fn but_one_listing(columns: usize, whole: bool) -> Vec<Vec<Entry>> {
+    let full = (1 << columns) - 1;
+    let mut listing = vec![Vec::new(); full + 1];
+    if whole {
+        listing[full].push(Entry { target: 0, right: ROW as u8, left: full as u16 });
+    }
+    listing
+}
+
+/// The whole listing at one go and in steps, and calls around the sets of withheld entries. A listing that is not told
+/// is made by the simple implementation.
+fn wide_listing(trial: &mut Trial, file: &[u8], listing: Option<Vec<Vec<Entry>>>) -> Outcome {
+    trial.file = file.to_vec();
+    let placed = Placed::new(file, &mut trial.random);
+    let catalogue = check(trial, &placed)?.map_err(|refusal| format!("a sound file is refused: {refusal:?}"))?;
+    let listing = listing.unwrap_or_else(|| simple::full_listing(&catalogue));
+    listings::one_go(trial, &placed, &listing)?;
+    listings::steps(trial, &placed, &listing, false)?;
+    listings::steps(trial, &placed, &listing, true)?;
+    withheld::run(trial, &placed, &catalogue, &listing, WITHHELD)?;
+    packed::listing(trial, file, &listing.concat())
 }
 
 /// The album cut at every length, lengthened, and with each of its bytes altered.
@@ -114,7 +175,7 @@ fn classes(trial: &mut Trial) -> Outcome {
         };
         (NO_PARENT, values.into_iter().zip(missing).map(code).collect())
     };
-    let rows = (0..300).map(|k| row(k)).collect();
+    let rows = (0..300).map(&mut row).collect();
     whole(trial, Draft { tables: vec![DraftTable { columns: values.len(), parent: NO_PARENT, rows }] }.layout())
 }
 

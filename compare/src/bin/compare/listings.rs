@@ -3,7 +3,7 @@
 use crate::trial::{expect, negative, same, Outcome, Trial};
 use compare::ffi;
 use compare::lent::{Numbers, Placed};
-use compare::simple::{self, Answer, Entry, Refusal, WORK_WORDS};
+use compare::simple::{self, Answer, Entry, Refusal, COLUMNS, WORK_WORDS};
 
 /// After so many steps a listing is ended by larger ones.
 const STEPS: usize = 40;
@@ -113,6 +113,18 @@ pub fn any_calls(trial: &mut Trial, placed: &Placed, listing: &[Vec<Entry>]) -> 
         let mut call = any_call(trial, place, last.saturating_sub(place));
         call.records = trial.random.pick(&[call.records, 0, 1, 2, 3]);
         let _ = compare(trial, placed, Ok(listing), call)?;
+    }
+    Ok(())
+}
+
+/// A call of budget 1 from a place, and of a few sets from it and from the one before, with few words and with many: by
+/// every way of the library. The run has no record or enough of them.
+pub fn near(trial: &mut Trial, placed: &Placed, listing: &[Vec<Entry>], place: u32) -> Outcome {
+    let before = place.saturating_sub(1);
+    for (place, budget, many) in [(place, 1, false), (place, 2, false), (before, 3, true)] {
+        let words = if many { trial.many_words() } else { trial.few_words() };
+        let records = trial.random.pick(&[0, 3 * (COLUMNS + 1)]);
+        let _ = compare(trial, placed, Ok(listing), Call { place, budget, records, words })?;
     }
     Ok(())
 }

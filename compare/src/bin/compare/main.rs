@@ -15,6 +15,7 @@ mod pairs;
 mod questions;
 mod supplied;
 mod trial;
+mod withheld;
 
 use std::ops::Range;
 use std::process::exit;
@@ -52,7 +53,7 @@ fn main() {
     let complete = count >= 1_000;
     trial.seen.print();
     if complete && !trial.seen.all() {
-        println!("some refusal or answer never occurred, or of the check by evidence too seldom");
+        println!("some refusal or answer never occurred, or some left side or check by evidence too seldom");
         exit(1);
     }
     println!("{count} catalogues from seed {first}, no difference, {:.1} s", start.elapsed().as_secs_f64());

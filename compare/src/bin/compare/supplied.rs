@@ -3,7 +3,9 @@
 use crate::damages::{self, Files, Supply};
 use crate::trial::{
     expect, hex, negative, same, Outcome, Trial, ENTRY_AND_SET, LIST_AND_RECORD, RECORD_AND_ENTRY, REFUSED_CATALOGUE,
+    UNBACKED_OPEN,
 };
+use compare::evidence::Failing;
 use compare::lent::Placed;
 use compare::random::{self, Layout};
 use compare::simple::{self, Entry, Refusal};
@@ -12,30 +14,74 @@ use compare::{evidence, ffi, table};
 /// How many lists with one damage, and with several, are made from each catalogue.
 const SINGLE: usize = 16;
 const SEVERAL: usize = 8;
-/// The evidence of a catalogue with more sets is made by the table; one with many more sets is left to the fixed cases.
+/// The evidence for the backed sets of a catalogue with more sets is made by the table, as that for all sets always is;
+/// one with many more sets is left to the fixed cases.
 const PLAIN_SETS: u32 = 300;
 const SETS: u32 = 2_100;
 
-/// The full listing of a catalogue with its evidence, as they are and damaged.
+/// The full listing of a catalogue with its evidence, for the backed sets and for all, as they are and damaged.
 pub fn run(trial: &mut Trial, layout: &Layout, listing: Vec<Entry>) -> Outcome {
     let catalogue = simple::check(&layout.file).map_err(|refusal| format!("the catalogue is refused: {refusal:?}"))?;
     if catalogue.sets() > SETS {
         return Ok(());
     }
-    let records =
-        if catalogue.sets() > PLAIN_SETS { table::evidence(&catalogue) } else { evidence::records(&catalogue) };
-    let supply = Supply { layout: layout.clone(), catalogue, front: Vec::new(), entries: listing, records };
+    let plain = catalogue.sets() <= PLAIN_SETS;
+    let of = Failing::Backed;
+    let records = if plain { evidence::records(&catalogue, of) } else { table::evidence(&catalogue, of) };
+    let withheld = table::withheld(&catalogue);
+    let supply = Supply { layout: layout.clone(), catalogue, front: Vec::new(), entries: listing, records, withheld };
+    let more = of_all_sets(&supply);
     let other = Supply::of(random::small_draft(&mut trial.random, 5, 6).layout());
-    accepted(trial, &supply)?;
-    for _ in 0..SINGLE {
-        let files = damages::one(&mut trial.random, &supply, &other);
-        compare(trial, &files)?;
-    }
-    for _ in 0..SEVERAL {
-        let files = damages::several(&mut trial.random, &supply, &other);
+    exact(trial, &supply, &more)?;
+    for k in 0..SINGLE + SEVERAL {
+        let supply = trial.random.pick(&[&supply, &more]);
+        let files = if k < SINGLE {
+            damages::one(&mut trial.random, supply, &other)
+        } else {
+            damages::several(&mut trial.random, supply, &other)
+        };
         compare(trial, &files)?;
     }
     Ok(())
+}
+
+/// Lists of which it is known whether they are accepted: the full listing with records for the backed sets and with
+/// those for all, if they are others; an entry more that no row backs; a record lowered.
+fn exact(trial: &mut Trial, supply: &Supply, more: &Supply) -> Outcome {
+    if !supply.withheld.is_empty() {
+        let entry = trial.random.pick(&supply.withheld);
+        refused(trial, &supply.with_entry(entry), Refusal::UnsoundEntry)?;
+    }
+    let others = (0..more.records.len()).any(|i| !more.is_backed(i));
+    for supply in [supply, more].into_iter().take(1 + others as usize) {
+        accepted(trial, supply)?;
+        if !supply.records.is_empty() {
+            let i = trial.random.below(supply.records.len());
+            lowered(trial, supply, i)?;
+        }
+    }
+    Ok(())
+}
+
+/// The same list with a record for each largest failing set, backed or not.
+fn of_all_sets(supply: &Supply) -> Supply {
+    Supply { records: table::evidence(&supply.catalogue, Failing::All), ..supply.clone() }
+}
+
+/// With records of the sets below in the place of one, its set alone is uncovered: the list is refused if the set is
+/// backed, and accepted if not.
+fn lowered(trial: &mut Trial, supply: &Supply, i: usize) -> Outcome {
+    if supply.is_backed(i) {
+        refused(trial, &supply.lowered(i), Refusal::UncoveredSet)
+    } else {
+        accepted(trial, &supply.lowered(i))
+    }
+}
+
+/// A list is refused with this number.
+fn refused(trial: &mut Trial, supply: &Supply, refusal: Refusal) -> Outcome {
+    let answer = answered(trial, &supply.files())?;
+    same(|| "a list with one thing wrong".into(), answer, Err(refusal))
 }
 
 /// A true list with true evidence is accepted, and the number of its entries comes back.
@@ -65,7 +111,7 @@ fn answered(trial: &mut Trial, files: &Files) -> Result<Result<u64, Refusal>, St
     same(call, reply, expected)?;
     expect([cat, list, records] == lent.map(Vec::as_slice), call, "a file was altered")?;
     match answer {
-        Ok(_) => trial.seen.verified(0, ""),
+        Ok(_) => trial.seen.verified(0, if has_unbacked_open(files) { UNBACKED_OPEN } else { "" }),
         Err(refusal) => {
             let (ground, also) = grounds(files);
             trial.seen.refusal(refusal);
@@ -74,6 +120,12 @@ fn answered(trial: &mut Trial, files: &Files) -> Result<Result<u64, Refusal>, St
         }
     }
     Ok(answer)
+}
+
+/// Whether some set that no row backs is uncovered.
+fn has_unbacked_open(files: &Files) -> bool {
+    let (Ok(catalogue), Ok(list)) = (simple::check(&files.cat), simple::open(&files.list)) else { return false };
+    evidence::first_uncovered(&catalogue, &list.entries, &evidence::read(&files.evidence).0, false).is_some()
 }
 
 /// The ground of 17, 18 or 19 that the first such record, entry or set has; and that the catalogue is refused, or that
@@ -96,24 +148,35 @@ fn grounds(files: &Files) -> (&'static str, Option<&'static str>) {
 
 // ---- Fixed cases ----
 
-/// A small catalogue throughout: with each record and each entry dropped and repeated; with each of the three files cut
-/// at every length, lengthened, and with each of its bytes altered.
+/// A small catalogue throughout: with each record and each entry dropped and repeated, each record lowered, and each
+/// withheld entry added; with each of the three files cut at every length, lengthened, and with each of its bytes
+/// altered.
 pub fn every(trial: &mut Trial, layout: Layout) -> Outcome {
     let supply = Supply::of(layout);
+    let more = of_all_sets(&supply);
     accepted(trial, &supply)?;
+    accepted(trial, &more)?;
     for i in 0..supply.records.len() {
         let mut less = supply.clone();
         let record = less.records.remove(i);
-        compare(trial, &less.files())?;
+        refused(trial, &less, Refusal::UncoveredSet)?;
         less.records.extend([record, record]);
         accepted(trial, &less)?;
+        lowered(trial, &supply, i)?;
+    }
+    for i in 0..more.records.len() {
+        lowered(trial, &more, i)?;
     }
     for i in 0..supply.entries.len() {
         let mut other = supply.clone();
         let entry = other.entries.remove(i);
-        compare(trial, &other.files())?;
+        refused(trial, &other, Refusal::UncoveredSet)?;
         other.entries.extend([entry, entry]);
         compare(trial, &other.files())?;
+    }
+    for entry in &supply.withheld {
+        refused(trial, &supply.with_entry(*entry), Refusal::UnsoundEntry)?;
+        refused(trial, &more.with_entry(*entry), Refusal::UnsoundEntry)?;
     }
     let files = supply.files();
     for list in damages::every(&files.list) {
@@ -128,11 +191,13 @@ pub fn every(trial: &mut Trial, layout: Layout) -> Outcome {
     Ok(())
 }
 
-/// A large catalogue: the full listing with its evidence, and so many with a damage.
+/// A large catalogue: the full listing with its evidence, for the backed sets and for all; with a withheld entry, with
+/// a record lowered, and so many with a damage.
 pub fn large(trial: &mut Trial, layout: Layout, damaged: usize) -> Outcome {
     let supply = Supply::of(layout);
+    let more = of_all_sets(&supply);
     let other = Supply::of(random::small_draft(&mut trial.random, 5, 6).layout());
-    accepted(trial, &supply)?;
+    exact(trial, &supply, &more)?;
     for _ in 0..damaged {
         let files = damages::one(&mut trial.random, &supply, &other);
         compare(trial, &files)?;

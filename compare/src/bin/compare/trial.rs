@@ -89,13 +89,14 @@ pub fn hex(file: &[u8]) -> String {
 /// The number of the last refusal.
 const LAST: usize = Refusal::UncoveredSet as usize;
 
-/// How often each refusal and each answer occurred, and each answer of the check by evidence: the refusal's number, or
-/// 0 if the list is accepted, with the first ground that was met. Of the same checks, how many refused the catalogue,
-/// and how many had files with grounds of two kinds.
+/// How often each refusal and each answer occurred, and each kind of left side by what backs it. Also each answer of
+/// the check by evidence: the refusal's number, or 0 if the list is accepted, with the first ground that was met. Of
+/// the same checks, how many refused the catalogue, and how many had files with grounds of two kinds.
 #[derive(Default)]
 pub struct Seen {
     refusals: [u64; LAST + 1],
     answers: BTreeMap<&'static str, u64>,
+    backing: BTreeMap<&'static str, u64>,
     verified: BTreeMap<(u8, &'static str), u64>,
     also: BTreeMap<&'static str, u64>,
 }
@@ -120,9 +121,22 @@ const ANSWERS: [&str; 16] = [
     "read, no record lent",
 ];
 
+/// The kinds of entries, listed or withheld since no row backs them, and of targets without rows that a run of some
+/// length must have met in `SOME` catalogues each.
+const BACKING: [&str; 7] = [NO_CELL, APART, ABOVE, NOT_REACHED, HARMLESS, NO_ROWS, NO_ROWS_UNDER_ROWS];
+pub const NO_CELL: &str = "withheld, a column without cells";
+pub const APART: &str = "withheld, each of its columns backed";
+pub const ABOVE: &str = "withheld, its own columns backed";
+pub const NOT_REACHED: &str = "withheld, backed in a table above";
+pub const HARMLESS: &str = "listed, its cell missing in a row not reached";
+pub const NO_ROWS: &str = "no rows";
+pub const NO_ROWS_UNDER_ROWS: &str = "no rows under rows";
+const SOME: u64 = 5;
+
 /// The answers of the check by evidence that a run of some length must have met `OFTEN` times each.
-const VERIFIED: [(u8, &str); 18] = [
+const VERIFIED: [(u8, &str); 20] = [
     (0, ""),
+    (0, UNBACKED_OPEN),
     (14, ""),
     (15, ""),
     (17, "broken"),
@@ -138,9 +152,13 @@ const VERIFIED: [(u8, &str); 18] = [
     (18, "10"),
     (18, "fails"),
     (18, "contains another"),
+    (18, "unbacked"),
     (19, "a set that holds contains no listed left"),
     (19, "a set that fails lies inside no record"),
 ];
+
+/// The ground of an accepted list with an unbacked set that is uncovered.
+pub const UNBACKED_OPEN: &str = "an unbacked set uncovered";
 
 /// The same of its refusals of the catalogue, all together, and of files with grounds of two kinds at once and none of
 /// an earlier kind.
@@ -160,6 +178,10 @@ impl Seen {
         *self.answers.entry(name).or_default() += 1;
     }
 
+    pub fn backing(&mut self, name: &'static str) {
+        *self.backing.entry(name).or_default() += 1;
+    }
+
     pub fn verified(&mut self, number: u8, ground: &'static str) {
         *self.verified.entry((number, ground)).or_default() += 1;
     }
@@ -172,6 +194,7 @@ impl Seen {
     pub fn add(&mut self, other: &Seen) {
         self.refusals.iter_mut().zip(other.refusals).for_each(|(count, more)| *count += more);
         other.answers.iter().for_each(|(name, more)| *self.answers.entry(name).or_default() += more);
+        other.backing.iter().for_each(|(name, more)| *self.backing.entry(name).or_default() += more);
         other.verified.iter().for_each(|(answer, more)| *self.verified.entry(*answer).or_default() += more);
         other.also.iter().for_each(|(name, more)| *self.also.entry(name).or_default() += more);
     }
@@ -179,6 +202,7 @@ impl Seen {
     pub fn all(&self) -> bool {
         self.refusals[1..].iter().all(|count| *count > 0)
             && ANSWERS.iter().all(|name| self.answers.contains_key(name))
+            && BACKING.iter().all(|name| self.backing.get(name).is_some_and(|count| *count >= SOME))
             && VERIFIED.iter().all(|answer| self.verified.get(answer).is_some_and(|count| *count >= OFTEN))
             && ALSO.iter().all(|name| self.also.get(name).is_some_and(|count| *count >= OFTEN))
     }
@@ -188,6 +212,8 @@ impl Seen {
         println!("refusals  {}", refusals.join(", "));
         let answers: Vec<String> = self.answers.iter().map(|(name, count)| format!("{name}: {count}")).collect();
         println!("answers   {}", answers.join("; "));
+        let backing: Vec<String> = self.backing.iter().map(|(name, count)| format!("{name}: {count}")).collect();
+        println!("backing   {}", backing.join("; "));
         let verified: Vec<String> = self.verified.iter().map(verified_line).collect();
         println!("verify    {} checks; {}", self.verified.values().sum::<u64>(), verified.join("; "));
         let also: Vec<String> = self.also.iter().map(|(name, count)| format!("{name}: {count}")).collect();
@@ -197,7 +223,8 @@ impl Seen {
 
 fn verified_line(((number, ground), count): (&(u8, &'static str), &u64)) -> String {
     match (number, *ground) {
-        (0, _) => format!("accepted: {count}"),
+        (0, "") => format!("accepted: {count}"),
+        (0, ground) => format!("accepted, {ground}: {count}"),
         (number, "") => format!("{number}: {count}"),
         (number, ground) => format!("{number}, {ground}: {count}"),
     }

@@ -2,7 +2,7 @@
 //! entries.
 
 use compare::random::{Draft, DraftTable, Random};
-use compare::simple::{COLUMNS, NO_PARENT, TABLES};
+use compare::simple::{COLUMNS, MISSING, NO_PARENT, TABLES};
 
 /// A sound catalogue of so many bytes, an even number from about 100 to 40,000: a root without columns and below it
 /// a table of so many columns, from 2 to 16. Every sound catalogue has an even number of bytes.
@@ -39,14 +39,15 @@ pub fn most() -> Vec<u8> {
 }
 
 /// A catalogue with so many entries, from 65,417 to 65,545: 65,409 of seven tables and the root, and the rest of
-/// eight tables without rows, each of which lists its own columns and the row.
+/// eight tables of one row, each of which lists its own columns and the row, with the empty left side; its cells are
+/// missing.
 pub fn with_entries(entries: usize) -> Vec<u8> {
     let mut draft = crowded(&mut Random::new(54), 7, 22);
     let mut left = entries - 65_409;
     for tables in (0..8).rev() {
         let here = (left - tables).min(COLUMNS + 1);
         left -= here;
-        draft.tables.push(DraftTable { columns: here - 1, parent: 0, rows: Vec::new() });
+        draft.tables.push(DraftTable { columns: here - 1, parent: 0, rows: vec![(0, vec![MISSING; here - 1])] });
     }
     draft.file()
 }

@@ -10,9 +10,9 @@ mod child;
 mod inputs;
 
 use child::Way;
-use compare::random::{self, Random};
+use compare::random::{self, Draft, Random};
 use compare::simple::{self, Catalogue, Entry, INPUT_BYTES};
-use compare::table;
+use compare::{table, unfilled};
 use std::path::PathBuf;
 use std::process::exit;
 use std::time::Instant;
@@ -118,6 +118,19 @@ fn sizes(trial: &mut Trial) -> Outcome {
     trial.compare("much noise", &inputs::noise(random, 1_000_000), &Way::at_once())
 }
 
+/// Catalogues with missing cells, or without rows: small ones, and ones of 15 and 16 columns.
+fn gaps(trial: &mut Trial) -> Outcome {
+    for catalogue in unfilled::small() {
+        trial.compare(catalogue.name, &catalogue.draft.file(), &Way::at_once())?;
+    }
+    for columns in [15, 16] {
+        let whole = Draft { tables: vec![unfilled::but_one(columns, columns == 16)] };
+        trial.compare("all cells but one", &whole.file(), &Way::at_once())?;
+        trial.compare("cells in one half", &unfilled::halves(columns, 200).file(), &Way::at_once())?;
+    }
+    Ok(())
+}
+
 /// Listings of about 65,536 entries and of many more, their output taken at once, slowly, and with its writes cut.
 fn lengths(trial: &mut Trial) -> Outcome {
     for entries in [65_535, 65_536, 65_537] {
@@ -183,6 +196,7 @@ fn main() {
     let start = Instant::now();
     let mut trial = Trial { program, refusals: [0; 17], too_long: 0, listings: 0, most_entries: 0 };
     end_on_difference(sizes(&mut trial));
+    end_on_difference(gaps(&mut trial));
     end_on_difference(lengths(&mut trial));
     for seed in first..first + count {
         end_on_difference(catalogue(&mut trial, seed));

@@ -4,10 +4,9 @@ use mathlib.Core.Path.{_≡_}
 use native.Mathlib.Omega.{arith}
 use lib.ListN.{length}
 use borrow.Author.Needs.{needs}
-use Rattle.planes.proofs.Bits.{seedWords-small}
 use Rattle.blocks.specs.Cache.{AddedBelow}
 use Rattle.blocks.proofs.Pairs.{adding-begun, adding-more, adding-index, adding-fits, adding-done}
-use Rattle.blocks.proofs.Pairs.{room-small}
+use Rattle.blocks.proofs.Pairs.{room-small, cursorAt-small}
 use Rattle.blocks.proofs.add_right.Statement.{statement}
 use Rattle.blocks.proofs.add_right.Tie as tie
 
@@ -25,7 +24,7 @@ power-requires : tie.Need-power-requires Inv-loop μ-loop
 power-requires c κs = search needs
 
 add-from : tie.Need-add-from Inv-loop μ-loop
-add-from c = let h = seedWords-small (c .before .before .before .args .n) (omega arith) in search needs
+add-from c = let h = cursorAt-small (c .before .before .before .args .n) (omega arith) in search needs
 
 loop-holds : tie.Need-loop-holds Inv-loop μ-loop
 loop-holds c = (search needs, search needs, adding-begun _ _ _ _)
@@ -37,7 +36,7 @@ mul-at c =
 add-at : tie.Need-add-at Inv-loop μ-loop
 add-at c =
     let h = room-small _ _ _ (omega arith) (c .before .before .before .before .before .pre .4) in
-    let s = seedWords-small (c .before .before .before .before .before .args .n) (omega arith) in
+    let s = cursorAt-small (c .before .before .before .before .before .args .n) (omega arith) in
     search needs
 
 cast-at : tie.Need-cast-at Inv-loop μ-loop

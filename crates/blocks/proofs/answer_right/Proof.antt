@@ -2,6 +2,7 @@
 use native.Mathlib.Omega.{arith}
 use borrow.Author.Needs.{needs}
 use Rattle.planes.proofs.Bits.{seedWords-small}
+use Rattle.planes.proofs.Backed.{two-planes}
 use Rattle.blocks.proofs.Answers.{answered-none, answered-some}
 use Rattle.blocks.proofs.answer_right.Statement.{statement}
 use Rattle.blocks.proofs.answer_right.Tie as tie
@@ -17,7 +18,10 @@ slice-aggregate-fill c = search needs
 
 fill-requires : tie.Need-fill-requires
 fill-requires c κs =
-    let h = seedWords-small (c .before .before .before .before .args .n) (omega arith) in search needs
+    let s = c .before .before .before .before in
+    let h = seedWords-small (s .args .n) (omega arith) in
+    let t = two-planes (s .args .n) (s .pre .0) in
+    search needs
 
 slice-aggregate-add-right : tie.Need-slice-aggregate-add-right
 slice-aggregate-add-right c = search needs

@@ -3,7 +3,7 @@ use Prim.Native.Nat.{_+_}
 use native.Mathlib.Omega.{arith}
 use lib.ListN.{length-set}
 use borrow.Author.Needs.{needs}
-use Rattle.planes.specs.Plane.{seedWords}
+use Rattle.blocks.specs.Cache.{cursorAt}
 use Rattle.blocks.proofs.Cursor.{at-cursor-inside, at-cursor-fits, cursor-rights, block-rights}
 use Rattle.blocks.proofs.rights_from.Statement.{statement}
 use Rattle.blocks.proofs.rights_from.Tie as tie
@@ -29,7 +29,7 @@ slice-read-cursor c = search needs
 add-words : tie.Need-add-words
 add-words c =
     let a = c .before .before in
-    let h = c .slice-known2 .given (seedWords (a .before .before .before .before .args .n) + 1) in
+    let h = c .slice-known2 .given (cursorAt (a .before .before .before .before .args .n) + 1) in
     record {
       fits =
           at-cursor-fits _ _ _ _ (a .before .before .power .ensures) (a .at-cursor .ensures (c .before .if1 .taken))

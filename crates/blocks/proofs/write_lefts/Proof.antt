@@ -7,9 +7,8 @@ use borrow.Author.Needs.{needs}
 use Rattle.columns.specs.Order.{nextOf}
 use Rattle.columns.specs.Set.{membersOf}
 use Rattle.columns.specs.declared.SetOrNone.the-variants.{Set}
-use Rattle.planes.proofs.Bits.{seedWords-small}
 use Rattle.blocks.proofs.Pairs.{LeftsBelow, lefts-begun, lefts-more, lefts-done}
-use Rattle.blocks.proofs.Pairs.{next-below, room-small}
+use Rattle.blocks.proofs.Pairs.{next-below, room-small, cursorAt-small}
 use Rattle.blocks.proofs.write_lefts.Statement.{statement}
 use Rattle.blocks.proofs.write_lefts.Tie as tie
 
@@ -29,7 +28,7 @@ power-requires : tie.Need-power-requires Inv-loop μ-loop
 power-requires c κs = search needs
 
 add-from : tie.Need-add-from Inv-loop μ-loop
-add-from c = let h = seedWords-small (c .before .before .before .args .n) (omega arith) in search needs
+add-from c = let h = cursorAt-small (c .before .before .before .args .n) (omega arith) in search needs
 
 loop-holds : tie.Need-loop-holds Inv-loop μ-loop
 loop-holds c = (search needs, lefts-begun _ _ _ (search needs))
@@ -41,7 +40,7 @@ mul-at c =
 add-at : tie.Need-add-at Inv-loop μ-loop
 add-at c =
     let h = room-small _ _ _ (omega arith) (c .before .before .before .room .ensures) in
-    let s = seedWords-small (c .before .before .before .before .before .args .n) (omega arith) in
+    let s = cursorAt-small (c .before .before .before .before .before .args .n) (omega arith) in
     search needs
 
 cast-at : tie.Need-cast-at Inv-loop μ-loop

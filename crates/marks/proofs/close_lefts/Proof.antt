@@ -3,7 +3,7 @@ use native.Mathlib.Omega.{arith}
 use borrow.Author.Needs.{needs}
 use Rattle.marks.proofs.Closed.{lefts-closed}
 use Rattle.planes.proofs.Bits.{seedWords-small}
-use Rattle.marks.proofs.Marks.{blank-room}
+use Rattle.planes.proofs.Marks.{blank-room}
 use Rattle.marks.proofs.close_lefts.Statement.{statement}
 use Rattle.marks.proofs.close_lefts.Tie as tie
 

@@ -3,7 +3,7 @@ use native.Mathlib.Omega.{arith}
 use borrow.Author.Needs.{needs}
 use Rattle.marks.proofs.Closed.{sets-closed}
 use Rattle.planes.proofs.Bits.{seedWords-small}
-use Rattle.marks.proofs.Marks.{blank-room}
+use Rattle.planes.proofs.Marks.{blank-room}
 use Rattle.marks.proofs.close_sets.Statement.{statement}
 use Rattle.marks.proofs.close_sets.Tie as tie
 

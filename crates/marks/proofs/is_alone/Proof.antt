@@ -4,7 +4,7 @@ use native.Mathlib.Omega.{arith}
 use borrow.Author.Needs.{needs}
 use lib.Bits.{and-le-l}
 use Rattle.table.proofs.Reading.{lowest-part, rest-less}
-use Rattle.marks.proofs.Marks.{place-inside}
+use Rattle.planes.proofs.Marks.{place-inside}
 use Rattle.marks.proofs.Reading.{AloneBut, alone-begun, alone-more, alone-failed, alone-done, mirror-read}
 use Rattle.evidence.proofs.Answers.{says-yes, says-no}
 use Rattle.marks.proofs.is_alone.Statement.{statement}

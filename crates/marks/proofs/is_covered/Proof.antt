@@ -1,9 +1,9 @@
 -- `marks::is_covered` meets its contract.
-use mathlib.Core.Logic.{inl}
+use mathlib.Core.Logic.{inl, inr}
 use native.Mathlib.Omega.{arith}
 use borrow.Author.Needs.{needs}
-use Rattle.marks.proofs.Marks.{place-inside}
-use Rattle.marks.proofs.Reading.{mirror-read, covered-by-set}
+use Rattle.planes.proofs.Marks.{place-inside}
+use Rattle.marks.proofs.Reading.{mirror-read, covered-unbacked}
 use Rattle.evidence.proofs.Answers.{says-yes}
 use Rattle.marks.proofs.is_covered.Statement.{statement}
 use Rattle.marks.proofs.is_covered.Tie as tie
@@ -19,26 +19,38 @@ mirror-requires c κs = search needs
 
 bit-at-requires : tie.Need-bit-at-requires
 bit-at-requires c κs =
-    let s = c .before .before .before .before in
-    place-inside (s .args .m) _ _ (s .pre .0) (omega (arith, c .mirror .ensures))
+    let s = c .before .before .before .before .before in
+    place-inside (s .args .m) _ _ (s .pre .1) (omega (arith, c .mirror .ensures))
 
 returns-2 : tie.Need-returns-2
 returns-2 c =
-    let s = c .before .before .before .before .before .before in
+    let s = c .before .before .before .before .before .before .before in
     let r = mirror-read (s .args .lefts .now) (s .args .m) (s .args .x) (c .before .before .mirror .ensures)
     (c .before .bit-at .ensures) in
-    says-yes (λ z. inl (omega arith))
+    says-yes (λ z i. inl (omega arith))
 
 bit-at-requires-2 : tie.Need-bit-at-requires-2
 bit-at-requires-2 c κs =
-    let s = c .before .before .before .before .before .before in place-inside (s .args .m) _ _ (s .pre .1) (omega arith)
+    let s = c .before .before .before .before .before .before .before in
+    place-inside (s .args .m) _ _ (s .pre .2) (omega arith)
 
 returns-3 : tie.Need-returns-3
-returns-3 c =
-    let s = c .before .before .before .before .before .before .before in
-    covered-by-set (s .args .lefts .now) (s .args .sets .now) (s .args .m) (s .args .a) (s .args .x) (omega arith)
-    (mirror-read (s .args .lefts .now) (s .args .m) (s .args .x) (c .before .before .before .mirror .ensures)
-    (c .before .before .bit-at .ensures)) (omega arith) (c .bit-at2 .ensures)
+returns-3 c = says-yes (λ z i. inr (omega (arith, c .before .bit-at2 .ensures)))
+
+bit-at-requires-3 : tie.Need-bit-at-requires-3
+bit-at-requires-3 c κs =
+    let s = c .before .before .before .before .before .before .before .before .before in
+    place-inside (s .args .m) _ _ (s .pre .0) (omega arith)
+
+returns-4 : tie.Need-returns-4
+returns-4 c =
+    let sets = c .before .before in
+    let lefts = sets .before .before in
+    let s = lefts .before .before .before .before .before .before in
+    let left = mirror-read (s .args .lefts .now) (s .args .m) (s .args .x) (lefts .before .mirror .ensures)
+    (lefts .bit-at .ensures) in
+    covered-unbacked (s .args .backed .now) (s .args .lefts .now) (s .args .sets .now) (s .args .m) (s .args .a)
+    (s .args .x) (omega arith) (omega arith) (omega (arith, sets .bit-at2 .ensures)) (c .bit-at3 .ensures)
 
 pub is-covered-spec : {M : Type 1} → statement M
 is-covered-spec =
@@ -50,4 +62,6 @@ is-covered-spec =
     bit-at-requires
     returns-2
     bit-at-requires-2
-    returns-3)
+    returns-3
+    bit-at-requires-3
+    returns-4)

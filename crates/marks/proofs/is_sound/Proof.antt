@@ -1,22 +1,41 @@
 -- `marks::is_sound` meets its contract.
-use mathlib.Core.Path.{ap}
+use Prim.Native.Nat.{_^_, _<_}
+use mathlib.Core.Path.{_≡_, sym, subst}
+use mathlib.Core.Logic.{_↔_}
+use mathlib.Core.Bool.{Bool, true, false, not}
 use native.Mathlib.Omega.{arith}
 use denote.Ref.{now}
+use Rattle.model.specs.Entries.{entryAt}
+use Rattle.model.specs.Verify.{EntryFor}
 use Rattle.model.specs.declared.Entry.{Entry}
 use Rattle.evidence.proofs.Answers.{says-yes, says-no, said-no, said-yes}
-use Rattle.marks.proofs.For.{entry-for}
-use Rattle.marks.proofs.Marks.{place-inside}
-use Rattle.marks.proofs.Sound.{broken-entry, unbroken-entry}
+use Rattle.planes.proofs.Marks.{place-inside}
+use Rattle.marks.proofs.For.{NamesTwo, entry-for}
+use Rattle.marks.proofs.Sound.{unbacked-entry, broken-entry, unbroken-entry}
 use borrow.Author.Needs.{needs}
 use Rattle.marks.proofs.is_sound.Statement.{statement}
 use Rattle.marks.proofs.is_sound.Tie as tie
+
+-- the entry is for the two, where the answer says so
+for-two : (s : tie.Start) {r : Bool}
+    → (r ≡ true) ↔ NamesTwo (now (s .args .list)) (s .args .at) (s .args .target) (s .args .right) → not r ≡ false
+    → EntryFor (s .args .target) (s .args .right) (entryAt (now (s .args .list)) (s .args .at))
+for-two s is =
+    said-yes (entry-for (now (s .args .list)) (s .args .at) (s .args .target) (s .args .right) is)
+
+-- and its left, as it was read, is one of m columns
+left-below : (s : tie.Start) {e : Entry} → e ≡ entryAt (now (s .args .list)) (s .args .at)
+    → EntryFor (s .args .target) (s .args .right) (entryAt (now (s .args .list)) (s .args .at))
+    → e .left < 2 ^ s .args .m
+left-below s q for =
+    subst (λ (e : Entry). e .left < 2 ^ s .args .m) (sym q) (s .pre .3 for)
 
 is-for-requires : tie.Need-is-for-requires
 is-for-requires c κs = search needs
 
 returns : tie.Need-returns
 returns c =
-    let a = c .before .before .before .before .before .args in
+    let a = c .before .before .before .before .before .before .args in
     let is = entry-for (now (a .list)) (a .at) (a .target) (a .right) (c .before .is-for .ensures) in
     says-yes (λ i. absurd (said-no is (c .if1 .taken) i))
 
@@ -28,37 +47,49 @@ cast-left c = search needs
 
 bit-at-requires : tie.Need-bit-at-requires
 bit-at-requires c κs =
-    let s = c .before .before .before .before .before .before .before in
-    let a = s .args in
-    let is = entry-for (now (a .list)) (a .at) (a .target) (a .right) (c .before .before .before .is-for .ensures) in
-    let l = s .pre .2 (said-yes is (c .before .before .if1 .left)) in
-    let e = ap (λ (e : Entry). e .left) (c .before .entry-from .ensures) in
-    place-inside (a .m) _ _ (s .pre .0) (omega arith)
+    let read = c .before in
+    let s = read .before .before .before .before .before .before .before in
+    let for = for-two s (read .before .before .is-for .ensures) (read .before .if1 .left) in
+    place-inside (s .args .m) _ _ (s .pre .0) (left-below s (read .entry-from .ensures) for)
 
 returns-2 : tie.Need-returns-2
 returns-2 c =
-    let s = c .before .before .before .before .before .before .before .before .before in
-    let a = s .args in
-    let is = entry-for (now (a .list)) (a .at) (a .target) (a .right) (c .before .before .before .before .before .is-for .ensures) in
-    says-no (broken-entry (a .broken .now) (a .lefts .now) (a .m) _ _ (c .before .before .before .entry-from .ensures)
-    (said-yes is (c .before .before .before .before .if1 .left)) (c .before .bit-at .ensures) (c .if2 .taken))
+    let read = c .before .before .before in
+    let s = read .before .before .before .before .before .before .before in
+    let for = for-two s (read .before .before .is-for .ensures) (read .before .if1 .left) in
+    says-no (unbacked-entry (s .args .backed .now) (s .args .broken .now) (s .args .lefts .now) (s .args .m) _ _
+    (read .entry-from .ensures) for (c .before .bit-at .ensures) (omega arith))
 
-is-alone-requires : tie.Need-is-alone-requires
-is-alone-requires c κs =
-    let s = c .before .before .before .before .before .before .before .before .before in
-    let a = s .args in
-    let is = entry-for (now (a .list)) (a .at) (a .target) (a .right) (c .before .before .before .before .before .is-for .ensures) in
-    let l = s .pre .2 (said-yes is (c .before .before .before .before .if1 .left)) in
-    let e = ap (λ (e : Entry). e .left) (c .before .before .before .entry-from .ensures) in
-    (s .pre .1, omega arith)
+bit-at-requires-2 : tie.Need-bit-at-requires-2
+bit-at-requires-2 c κs =
+    let read = c .before .before .before in
+    let s = read .before .before .before .before .before .before .before in
+    let for = for-two s (read .before .before .is-for .ensures) (read .before .if1 .left) in
+    place-inside (s .args .m) _ _ (s .pre .1) (left-below s (read .entry-from .ensures) for)
 
 returns-3 : tie.Need-returns-3
 returns-3 c =
-    let s = c .before .before .before .before .before .before .before .before .before .before in
-    let a = s .args in
-    let is = entry-for (now (a .list)) (a .at) (a .target) (a .right) (c .before .before .before .before .before .before .is-for .ensures) in
-    unbroken-entry (a .broken .now) (a .lefts .now) (a .m) _ _ (c .before .before .before .before .entry-from .ensures)
-    (said-yes is (c .before .before .before .before .before .if1 .left)) (c .before .before .bit-at .ensures) (c .before .if2 .left) (c .is-alone .ensures)
+    let read = c .before .before .before .before .before in
+    let s = read .before .before .before .before .before .before .before in
+    let for = for-two s (read .before .before .is-for .ensures) (read .before .if1 .left) in
+    says-no (broken-entry (s .args .backed .now) (s .args .broken .now) (s .args .lefts .now) (s .args .m) _ _
+    (read .entry-from .ensures) for (c .before .bit-at2 .ensures) (c .if3 .taken))
+
+is-alone-requires : tie.Need-is-alone-requires
+is-alone-requires c κs =
+    let read = c .before .before .before .before .before in
+    let s = read .before .before .before .before .before .before .before in
+    let for = for-two s (read .before .before .is-for .ensures) (read .before .if1 .left) in
+    (s .pre .2, left-below s (read .entry-from .ensures) for)
+
+returns-4 : tie.Need-returns-4
+returns-4 c =
+    let read = c .before .before .before .before .before .before in
+    let s = read .before .before .before .before .before .before .before in
+    let for = for-two s (read .before .before .is-for .ensures) (read .before .if1 .left) in
+    unbroken-entry (s .args .backed .now) (s .args .broken .now) (s .args .lefts .now) (s .args .m) _ _
+    (read .entry-from .ensures) for (c .before .before .before .before .bit-at .ensures) (omega arith)
+    (c .before .before .bit-at2 .ensures) (c .before .if3 .left) (c .is-alone .ensures)
 
 pub is-sound-spec : {M : Type 1} → statement M
 is-sound-spec =
@@ -70,5 +101,7 @@ is-sound-spec =
     cast-left
     bit-at-requires
     returns-2
+    bit-at-requires-2
+    returns-3
     is-alone-requires
-    returns-3)
+    returns-4)

@@ -6,7 +6,7 @@ use Rattle.model.specs.declared.Entry.{Entry}
 use Rattle.evidence.proofs.Answers.{said-no, said-yes}
 use Rattle.marks.specs.Marks.{mirror}
 use Rattle.marks.proofs.For.{entry-for}
-use Rattle.marks.proofs.Marks.{marked-none, marked-for, place-inside}
+use Rattle.planes.proofs.Marks.{marked-none, marked-for, place-inside}
 use borrow.Author.Needs.{needs}
 use Rattle.marks.proofs.mark_left.Statement.{statement}
 use Rattle.marks.proofs.mark_left.Tie as tie
@@ -37,11 +37,12 @@ mirror-requires c κs =
 
 mark-requires : tie.Need-mark-requires
 mark-requires c κs =
-    let s = c .before .before .before .before .before .before .before .before in
+    let read = c .before .before .before in
+    let s = read .before .before .before .before .before in
     let a = s .args in
-    let is = entry-for (now (a .list)) (a .at) (a .target) (a .right) (c .before .before .before .before .before .is-for .ensures) in
-    let l = s .pre .1 (said-yes is (c .before .before .before .before .if1 .left)) in
-    let e = ap (λ (e : Entry). e .left) (c .before .before .before .entry-from .ensures) in
+    let is = entry-for (now (a .list)) (a .at) (a .target) (a .right) (read .before .before .is-for .ensures) in
+    let l = s .pre .1 (said-yes is (read .before .if1 .left)) in
+    let e = ap (λ (e : Entry). e .left) (read .entry-from .ensures) in
     place-inside (a .m) _ _ (s .pre .0) (omega (arith, c .before .mirror .ensures))
 
 same-length : tie.Need-same-length
@@ -49,11 +50,11 @@ same-length c = search needs
 
 returns-2 : tie.Need-returns-2
 returns-2 c =
-    let s = c .before .before .before .before .before .before .before .before .before .before .before in
-    let a = s .args in
-    let is = entry-for (now (a .list)) (a .at) (a .target) (a .right) (c .before .before .before .before .before .before .before .before .is-for .ensures) in
-    marked-for _ _ _ _ (said-yes is (c .before .before .before .before .before .before .before .if1 .left))
-    (c .before .before .before .before .mirror .ensures ∙ ap (λ (e : Entry). mirror (a .m) (e .left)) (c .before .before .before .before .before .before .entry-from .ensures))
+    let read = c .before .before .before .before .before .before in
+    let a = read .before .before .before .before .before .args in
+    let is = entry-for (now (a .list)) (a .at) (a .target) (a .right) (read .before .before .is-for .ensures) in
+    let e = ap (λ (e : Entry). mirror (a .m) (e .left)) (read .entry-from .ensures) in
+    marked-for _ _ _ _ (said-yes is (read .before .if1 .left)) (c .before .before .before .before .mirror .ensures ∙ e)
     (c .before .before .mark .ensures)
 
 pub mark-left-spec : {M : Type 1} → statement M

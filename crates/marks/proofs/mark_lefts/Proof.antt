@@ -7,7 +7,7 @@ use Rattle.model.specs.Entries.{entryBytes, entriesFrom}
 use Rattle.marks.specs.Listed.{NarrowLeft, LeftAt}
 use Rattle.marks.proofs.Marking.{Marking, marking-begun, marking-fine, marking-more, marking-done}
 use Rattle.evidence.proofs.Lists.{entries-none, entries-next}
-use Rattle.marks.proofs.Marks.{room-kept}
+use Rattle.planes.proofs.Marks.{room-kept}
 use Rattle.marks.proofs.mark_lefts.Statement.{statement}
 use Rattle.marks.proofs.mark_lefts.Tie as tie
 

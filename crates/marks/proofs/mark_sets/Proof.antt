@@ -7,7 +7,7 @@ use Rattle.model.specs.Evidence.{evidenceBytes, recordsFrom}
 use Rattle.marks.specs.Listed.{NarrowSet, SetAt}
 use Rattle.marks.proofs.Marking.{Marking, marking-begun, marking-fine, marking-more, marking-done}
 use Rattle.evidence.proofs.Lists.{records-none, records-next}
-use Rattle.marks.proofs.Marks.{room-kept}
+use Rattle.planes.proofs.Marks.{room-kept}
 use Rattle.marks.proofs.mark_sets.Statement.{statement}
 use Rattle.marks.proofs.mark_sets.Tie as tie
 

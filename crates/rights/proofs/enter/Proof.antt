@@ -4,8 +4,6 @@ use mathlib.Core.Path.{sym, subst}
 use native.Mathlib.Omega.{arith}
 use denote.Ref.{now}
 use Rattle.model.specs.Listing.{ordinary}
-use Rattle.model.specs.Target.{view}
-use Rattle.model.proofs.Target.{view-equivalence}
 use Rattle.model.proofs.Check.{accepted-visible, accepted-rows}
 use Rattle.rights.proofs.Held.{own-fits, keyed-rows, alone-rights}
 use borrow.Author.Needs.{needs}
@@ -46,8 +44,11 @@ minimal-alone-requires c κs =
       ),
     )
 
-filter-requires : tie.Need-filter-requires
-filter-requires c κs = search needs
+filter-alone-requires : tie.Need-filter-alone-requires
+filter-alone-requires c κs =
+    let s = c .before .before .before .before .before .before .before .before .before .before in
+    let e = c .before .before .before .before .before .before .before .visible .ensures in
+    (s .pre .0, (s .pre .1 .0, (e, subst (λ (n : ℕ). s .args .left < 2 ^ n) (sym e) (s .pre .1 .1 .0))))
 
 returns : tie.Need-returns
 returns c =
@@ -57,22 +58,24 @@ returns c =
           alone-rights (ordinary (now (s .args .cat))) (s .args .target) (s .args .left) (t .own-rights .ensures)
           (keyed-rows _ _ (t .before .rows .ensures) (t .before .before .lay-all .ensures))
           (c .before .minimal-alone .ensures)
-          (c .filter .ensures),
+          (c .filter-alone .ensures),
       λ more. absurd (more (c .before .before .before .if1 .taken)),
     )
 
 fill-requires : tie.Need-fill-requires
 fill-requires c κs =
-    let s = c .before .before .before .before .before .before .before .before .before .before in
-    let cat = now (s .args .cat) in
-    let e = c .before .before .before .before .before .before .before .visible .ensures in (
-      omega (arith, e, accepted-visible cat (s .pre .0) (s .args .target) (s .pre .1 .0)),
-      omega (
-        arith,
-        c .before .before .before .before .rows .ensures,
-        accepted-rows cat (s .pre .0) (s .args .target) (s .pre .1 .0),
+    let t = c .before .before .before in
+    let s = t .before .before .before .before .before .before .before in
+    let e = t .before .before .before .before .visible .ensures in (
+      s .pre .0,
+      (
+        s .pre .1 .0,
+        (
+          e,
+          s .pre .1 .1 .1,
+          keyed-rows _ _ (t .before .rows .ensures) (t .before .before .lay-all .ensures),
+        ),
       ),
-      s .pre .1 .1 .1,
     )
 
 same-length : tie.Need-same-length
@@ -81,16 +84,12 @@ same-length c = search needs
 returns-2 : tie.Need-returns-2
 returns-2 c =
     let t = c .before .before .before .before .before .before in
-    let s = t .before .before .before .before .before .before .before in
-    let cat = now (s .args .cat) in (
+    let s = t .before .before .before .before .before .before .before in (
       λ one. absurd (c .before .before .before .before .before .if1 .left one),
       λ more.
           record {
             rights = t .own-rights .ensures;
-            holding =
-                c .before .before .fill .ensures (view cat (s .args .target))
-                (keyed-rows _ _ (t .before .rows .ensures) (t .before .before .lay-all .ensures))
-                (view-equivalence cat (s .args .target)) _;
+            holding = c .before .before .fill .ensures _;
           },
     )
 
@@ -104,7 +103,7 @@ enter-spec =
     cast-end
     own-rights-requires
     minimal-alone-requires
-    filter-requires
+    filter-alone-requires
     returns
     fill-requires
     same-length

@@ -24,16 +24,25 @@ minimal-requires c κs =
     )
 
 filter-requires : tie.Need-filter-requires
-filter-requires c κs = search needs
+filter-requires c κs =
+    let s = c .before .before .before .before .before .before .before in
+    let cat = now (s .args .cat) in
+    let v = view cat (s .args .target) in
+    let e = s .pre .1 .1 .0 .0 in
+    let still = c .before .before .before .minimal .ensures .holding v (sym e) (s .pre .1 .1 .1 .holding) in (
+      omega (arith, e, accepted-visible cat (s .pre .0) (s .args .target) (s .pre .1 .0)),
+      s .pre .1 .1 .0 .1,
+      readable (s .args .held) v _ (s .args .own) _ (sym e) still,
+    )
 
 same-length : tie.Need-same-length
 same-length c = search needs
 
 returns : tie.Need-returns
 returns c =
-    let s = c .before .before .before .before .before .before .before in
+    let s = c .before .before .before .before .before .before .before .before in
     let l = ordinary (now (s .args .cat)) in
-    let m = c .before .before .before .minimal in (
+    let m = c .before .before .before .before .minimal in (
       ready-rights l (s .args .target) (s .pre .1 .1 .1) (s .pre .1 .1 .0 .0) (m .ensures) (c .filter .ensures),
       ready-still l (s .args .target) (s .pre .1 .1 .1) (s .pre .1 .1 .0 .0) (m .ensures),
     )

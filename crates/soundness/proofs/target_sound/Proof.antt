@@ -10,7 +10,7 @@ use Rattle.model.proofs.Check.{accepted-visible}
 use Rattle.model.proofs.Climb.{inherited-visible}
 use Rattle.model.proofs.Target.{view-equivalence}
 use Rattle.evidence.proofs.Answers.{says-no, said-yes, said-no, same-answer}
-use Rattle.marks.proofs.Marks.{blank-room, room-kept}
+use Rattle.planes.proofs.Marks.{blank-room, room-kept}
 use Rattle.soundness.proofs.Laws.{not-fitting, fitting, fits-narrow}
 use borrow.Author.Needs.{needs}
 use Rattle.soundness.proofs.target_sound.Statement.{statement}
@@ -50,16 +50,32 @@ sow-requires c κs =
     let n = c .before .before .before .before .before .visible .ensures in
     (s .pre .0, (s .pre .1 .0, (n, blank-room _ (m .word) (m .few (omega (arith, few s, n))))))
 
+slice-aggregate-backed-plane : tie.Need-slice-aggregate-backed-plane
+slice-aggregate-backed-plane c = search needs
+
+backed-plane-requires : tie.Need-backed-plane-requires
+backed-plane-requires c κs =
+    let wide = c .before .before .before .before in
+    let n = wide .before .before .before .before .visible .ensures in
+    let m = wide .wide .ensures in
+    let s = wide .before .before .before .before .before .before .before in
+    (s .pre .0, (omega (arith, s .pre .1 .0), (n, m .all, blank-room _ (m .word) (m .few (omega (arith, few s, n))))))
+
 slice-aggregate-rights-sound : tie.Need-slice-aggregate-rights-sound
 slice-aggregate-rights-sound c = search needs
 
+slice-aggregate-rights-sound-2 : tie.Need-slice-aggregate-rights-sound-2
+slice-aggregate-rights-sound-2 c = search needs
+
 rights-sound-requires : tie.Need-rights-sound-requires
 rights-sound-requires c κs =
-    let s = c .before .before .before .before .before .before .before .before .before .before .before in
-    let m = c .before .before .before .before .wide .ensures in
-    let fit = c .before .before .before .before .before in
+    let wide = c .before .before .before .before .before .before .before .before in
+    let fit = wide .before in
     let n = fit .before .before .before .visible in
-    let b : n .result ≤ columnBound = omega (arith, few s, n .ensures) in (
+    let s = fit .before .before .before .before .before .before in
+    let m = wide .wide .ensures in
+    let b : n .result ≤ columnBound = omega (arith, few s, n .ensures) in
+    let room = blank-room _ (m .word) (m .few b) in (
       m .all,
       b,
       omega (
@@ -68,16 +84,17 @@ rights-sound-requires c κs =
         n .ensures,
         fit .before .before .inherited .ensures,
       ),
-      room-kept (c .before .before .sow .ensures .0) (blank-room _ (m .word) (m .few b)),
+      room-kept (c .before .before .before .before .before .before .sow .ensures .0) room,
+      room-kept (search needs) room,
       s .pre .1 .1,
       fits-narrow (said-yes (fit .before .entries-fit .ensures) (fit .if1 .left)),
     )
 
 returns-2 : tie.Need-returns-2
 returns-2 c =
-    let s = c .before .before .before .before .before .before .before .before .before .before .before .before in
+    let fit = c .before .before .before .before .before .before .before .before .before .before in
+    let s = fit .before .before .before .before .before .before in
     let cat = now (s .args .cat) in
-    let fit = c .before .before .before .before .before .before in
     let n = fit .before .before .before .visible .ensures in
     let low = fit .before .before .inherited .ensures in
     let by = fitting cat (s .args .target) _ _ _ n low (s .pre .1 .0) (omega (arith, few s, n))
@@ -85,7 +102,8 @@ returns-2 c =
     (said-yes (fit .before .entries-fit .ensures) (fit .if1 .left)) in
     same-answer (by .0) (by .1)
     (c .rights-sound .ensures (view cat (s .args .target)) (sym n) (view-equivalence cat (s .args .target))
-    (c .before .before .before .sow .ensures .1))
+    (c .before .before .before .before .before .before .before .sow .ensures .1)
+    (c .before .before .before .before .backed-plane .ensures))
 
 pub target-sound-spec : {M : Type 1} → statement M
 target-sound-spec =
@@ -98,6 +116,9 @@ target-sound-spec =
     wide-requires
     slice-aggregate-sow
     sow-requires
+    slice-aggregate-backed-plane
+    backed-plane-requires
     slice-aggregate-rights-sound
+    slice-aggregate-rights-sound-2
     rights-sound-requires
     returns-2)

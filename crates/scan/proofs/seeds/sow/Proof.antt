@@ -3,6 +3,7 @@ use Prim.Native.Nat.{_+_, _≤_}
 use native.Mathlib.Omega.{arith}
 use borrow.Author.Needs.{needs}
 use lib.ListN.{length}
+use Rattle.planes.proofs.Backed.{two-planes}
 use Rattle.scan.proofs.Seeing.{blank-begun}
 use Rattle.scan.proofs.Writing.{sown-among, sown, none-cached}
 use Rattle.scan.proofs.seeds.sow.Statement.{statement}
@@ -22,7 +23,9 @@ occurring-requires : tie.Need-occurring-requires
 occurring-requires c κs = ((c .before .before .pre .1, c .before .before .pre .2), blank-begun)
 
 write-seeds-requires : tie.Need-write-seeds-requires
-write-seeds-requires c κs = search needs
+write-seeds-requires c κs =
+    let s = c .before .before .before .before .before in
+    (s .pre .0, s .pre .1, omega (arith, s .pre .3, two-planes (s .args .n) (s .pre .0)))
 
 sub-power : tie.Need-sub-power
 sub-power c = search needs
@@ -50,7 +53,8 @@ returns c = (
   sown (c .before .before .before .write-seeds .last .1 .1 .0) (c .power .result)
       (c .before .before .before .before .before .before .before .before .before .pre .0) (c .power .ensures)
       (sown-among (c .before .before .before .before .before .before .occurring .ensures) _
-      (c .before .before .before .before .before .before .before .before .before .pre .0) (c .before .before .before .write-seeds .ensures)),
+      (c .before .before .before .before .before .before .before .before .before .pre .0)
+      (c .before .before .before .write-seeds .ensures)),
   none-cached _ _ (c .before .before .before .write-seeds .last .1 .1 .0) (c .power .ensures) (behind c),
 )
 

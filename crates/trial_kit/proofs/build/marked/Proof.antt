@@ -7,10 +7,13 @@ use Rattle.trial_kit.proofs.build.marked.Statement.{statement}
 use Rattle.trial_kit.proofs.build.marked.Tie as tie
 
 abbrev Inv-loop : tie.InvT-loop
-Inv-loop b₀ at n set next₀ k₀ b next k = length b ≡ length b₀
+Inv-loop b₀ at n set own next₀ k₀ b next k = length b ≡ length b₀
 
 abbrev μ-loop : tie.MeasureT-loop
-μ-loop b₀ at n set next₀ k₀ b next k = n - k
+μ-loop b₀ at n set own next₀ k₀ b next k = n - k
+
+offset-requires : tie.Need-offset-requires Inv-loop μ-loop
+offset-requires c κs = search needs
 
 put2-requires : tie.Need-put2-requires Inv-loop μ-loop
 put2-requires c κs = search needs
@@ -45,6 +48,7 @@ marked-spec =
     (tie.spec
     Inv-loop
     μ-loop
+    offset-requires
     put2-requires
     loop-holds
     member-requires

@@ -1,7 +1,8 @@
--- Marks on a plane: one set more, none, and a plane without any; and that each set has its place in the words.
+-- Marks on a plane: one set more, none, a plane without any, and what marks say once closed; and that each set has its
+-- place in the words.
 use Prim.Native.Nat.{ℕ, _/_, _%_, _^_, _<_, _≤_}
 use mathlib.Core.Path.{_≡_, sym, ap, subst, _∙_}
-use mathlib.Core.Logic.{_⊎_, inl, inr}
+use mathlib.Core.Logic.{_↔_, _⊎_, inl, inr}
 use mathlib.Core.List.{List}
 use native.Mathlib.Decide.{ℕ-discrete}
 use native.Mathlib.Omega.{arith}
@@ -10,11 +11,12 @@ use lib.Seq.{getD-set-same, getD-set-other}
 use lib.Bits.{bitOr}
 use Rattle.columns.specs.Bound.{columnBound}
 use Rattle.columns.specs.Set.{bit}
-use Rattle.table.specs.Words.{word}
+use Rattle.columns.proofs.Bits.{bit-past}
+use Rattle.table.specs.Words.{word, Above}
 use Rattle.table.proofs.Bits.{bit-none, bit-with-same, bit-with-other, word-blank}
-use Rattle.planes.specs.Bits.{planeBit}
+use Rattle.planes.specs.Bits.{planeBit, PlaneFrom}
 use Rattle.planes.proofs.Bits.{power-words, seedWords-small}
-use Rattle.marks.specs.Marks.{Marked, RoomFor}
+use Rattle.planes.specs.Marks.{Marked, RoomFor}
 
 -- one set more: its mark is set, and those of other sets stay
 module _ (plane : List ℕ) (x : ℕ) (h : x / 32 < length plane) where
@@ -92,3 +94,18 @@ blank-plane n y = ap (λ (w : ℕ). bit w (y % 32)) (word-blank n (y / 32)) ∙ 
 pub blank-room : (m : ℕ) → 5 ≤ m → m ≤ columnBound → RoomFor m (replicate 2048 0)
 blank-room m l h =
     record { word = l; few = h; fits = omega (arith, seedWords-small m h, length-replicate {A = ℕ} 2048 0) }
+
+-- marks of wanted sets alone, closed: a set is marked exactly if it lies inside a wanted one
+pub closed-wanted : {Wanted : ℕ → Type 0} (m n : ℕ) (marks plane : List ℕ)
+    → ((y : ℕ) → Wanted y → y < 2 ^ m) → Marked Wanted (replicate n 0) marks → PlaneFrom m m marks plane
+    → (x : ℕ) → x < 2 ^ m → (planeBit plane x ≡ 1) ↔ ((s : ℕ) × Above x s × Wanted s)
+closed-wanted {Wanted} m n marks plane below mark fill x l = (
+  λ b. let f = fill .sound x l b in (f .0, f .2, wanted (f .0) (mark .marks (f .0) .0 (f .4))),
+  λ f.
+      let h = below (f .0) (f .2) in
+      fill .complete x (f .0) l h (f .1) (bit-past (f .0) m m h (omega arith)) (mark .marks (f .0) .1 (inr (f .2))),
+)
+  where
+    wanted : (s : ℕ) → (planeBit (replicate n 0) s ≡ 1) ⊎ Wanted s → Wanted s
+    wanted s (inl b) = absurd (omega (arith, blank-plane n s))
+    wanted s (inr w) = w

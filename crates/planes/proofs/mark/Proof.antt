@@ -1,9 +1,9 @@
--- `marks::mark` meets its contract.
+-- `planes::mark` meets its contract.
 use native.Mathlib.Omega.{arith}
 use borrow.Author.Needs.{needs}
-use Rattle.marks.proofs.Marks.{marked-one}
-use Rattle.marks.proofs.mark.Statement.{statement}
-use Rattle.marks.proofs.mark.Tie as tie
+use Rattle.planes.proofs.Marks.{marked-one}
+use Rattle.planes.proofs.mark.Statement.{statement}
+use Rattle.planes.proofs.mark.Tie as tie
 
 cast-i : tie.Need-cast-i
 cast-i c = search needs
