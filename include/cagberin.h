@@ -25,8 +25,8 @@
  *
  * Stack. cagberin_verify needs up to 400 KB (409,600 bytes) of stack, cagberin_list up to 300 KB (307,200 bytes),
  * cagberin_ask and cagberin_pair up to 240 KB (245,760 bytes), each other call up to 16 KB (16,384 bytes). Measured on
- * a stack filled with a pattern beforehand, on catalogues of 4 to 4,096 rows: 296,760 bytes for a check by evidence,
- * 281,848 for a listing, 217,399 for a pair, 213,271 for a question.
+ * a stack filled with a pattern beforehand, on catalogues of 4 to 4,096 rows: 304,952 bytes for a check by evidence,
+ * 281,896 for a listing, 217,399 for a pair, 213,287 for a question.
  */
 #ifndef CAGBERIN_H
 #define CAGBERIN_H
