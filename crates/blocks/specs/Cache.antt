@@ -12,7 +12,7 @@ use Rattle.table.specs.Words.{word, Narrow}
 use Rattle.table.specs.Broken.{minimalMask}
 use Rattle.model.specs.Rights.{rightAt}
 use Rattle.planes.specs.Bits.{planeBit}
-use Rattle.planes.specs.Plane.{seedWords, Sown, BackedBehind}
+use Rattle.planes.specs.Plane.{Sown, BackedBehind}
 
 -- where the cursor stands: behind the seeds and the plane of backed left sides, which takes as many words; and where
 -- the pairs begin: behind it and the count

@@ -6,9 +6,9 @@ use mathlib.Core.Logic.{_↔_}
 use mathlib.Core.Bool.{Bool, true, false, not, _||_}
 use native.Mathlib.Omega.{arith}
 use lib.Dec.{T}
-use Rattle.columns.specs.Set.{bit, withoutOf}
+use Rattle.columns.specs.Set.{withoutOf}
 use Rattle.columns.proofs.Bits.{bit-past}
-use Rattle.model.specs.View.{View, In, isIn, Within, PresentOn, presentOn, Backed, backed}
+use Rattle.model.specs.View.{View, isIn, Within, PresentOn, presentOn, Backed, backed}
 use Rattle.model.proofs.Truth.{is-true, true-is, is-false, false-is, implies-is, allBelow-is, someBelow-is}
 use Rattle.model.proofs.View.{isIn-is, without-within}
 

@@ -5,7 +5,6 @@ use Prim.Native.Nat.{ℕ, zero, suc, _+_}
 use mathlib.Core.Path.{_≡_}
 use mathlib.Core.List.{List, [], _∷_, _++_, map}
 use mathlib.Core.Bool.{true, false}
-use lib.ListN.{length}
 use Rattle.model.specs.Bounds.{noParent, missing, row}
 use Rattle.model.specs.Reply.{answered}
 use Rattle.model.specs.Catalogue.{visible, inherited}

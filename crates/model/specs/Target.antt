@@ -3,7 +3,7 @@
 -- row has (document 02, d; the second clause of Definition 9).
 use Prim.Native.Nat.{ℕ, zero, suc, _-_, _^_}
 use mathlib.Core.List.{List}
-use mathlib.Core.Bool.{Bool, true, false, not, _&&_, _||_}
+use mathlib.Core.Bool.{Bool, not, _&&_, _||_}
 use lib.Dec.{eqb}
 use Rattle.columns.specs.Test.{ifEq, ifLt}
 use Rattle.model.specs.Bounds.{tableBound, missing}

@@ -1,6 +1,6 @@
 -- What the work words hold for a view, and the rights that a table gives, or seeds and a cache, or keys alone.
 use Prim.Native.Nat.{ℕ, suc, _+_, _-_, _^_, _≤_, _<_}
-use mathlib.Core.Path.{_≡_, refl, sym, ap, subst, _∙_}
+use mathlib.Core.Path.{_≡_, sym, ap, subst, _∙_}
 use mathlib.Core.Logic.{_↔_}
 use mathlib.Core.List.{List}
 use native.Mathlib.Numerals.{add-one}
@@ -12,9 +12,8 @@ use Rattle.columns.specs.Bound.{columnBound}
 use Rattle.columns.specs.Set.{bit}
 use Rattle.columns.proofs.Bits.{bit-past}
 use Rattle.model.specs.Bounds.{workBound}
-use Rattle.model.specs.Catalogue.{tables, rows, visible}
-use Rattle.model.specs.Check.{Accepted}
-use Rattle.model.specs.Listing.{Listing, widthOf, ordinary}
+use Rattle.model.specs.Catalogue.{rows, visible}
+use Rattle.model.specs.Listing.{Listing, widthOf}
 use Rattle.model.specs.View.{View, Equivalence, Backed}
 use Rattle.model.proofs.Backed.{true-backed, false-backed}
 use Rattle.model.specs.Target.{view, ownRights}

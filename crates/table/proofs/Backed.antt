@@ -1,6 +1,6 @@
 -- A left side is backed exactly if it lies inside the set of present members of some row; so are its bits in words
 -- where these sets were noted, once they are closed.
-use Prim.Native.Nat.{ℕ, suc, _^_, _≤_, _<_}
+use Prim.Native.Nat.{ℕ, suc, _^_, _<_}
 use mathlib.Core.Path.{_≡_, refl, sym, ap, subst, _∙_}
 use mathlib.Core.Logic.{_↔_, _⊎_, inl, inr}
 use mathlib.Core.List.{List}

@@ -1,5 +1,4 @@
 -- `rights::fill` meets its contract: the words hold the seeds or the table, whichever they have room for.
-use mathlib.Core.Path.{sym}
 use native.Mathlib.Omega.{arith}
 use denote.Ref.{now}
 use borrow.Author.Needs.{needs}
