@@ -2,8 +2,9 @@
  * cagberin.h - what determines what in a media catalogue.
  *
  * A media catalogue is a file of tables in a tree. The calls check one, say whether a dependency holds in it, give the
- * first pair of rows that breaks one, list in steps all minimal dependencies and keys that some row backs, pack and
- * read such lists, and check by evidence that a list is the full one. examples/c/example.c makes each call.
+ * first pair of rows that breaks one, list in steps all minimal dependencies and keys that some row backs, save what a
+ * key gives, pack and read such lists, and check by evidence that a list is the full one. examples/c/example.c makes
+ * each call.
  *
  * Link with libhost.a, an archive for x86-64 Linux. Of the outside it needs memcpy and memset, nothing else.
  *
@@ -57,7 +58,7 @@ extern "C" {
 #define CAGBERIN_SMALLEST_FILE 16     /* bytes of the smallest catalogue */
 #define CAGBERIN_WORK_WORDS 16384     /* work words that a question, a pair or a listing needs at least */
 #define CAGBERIN_MANY_WORDS 65536     /* a work word for each left side of 16 visible columns: see cagberin_list */
-#define CAGBERIN_SET_ENTRIES 17       /* entries of one set, at most: 16 columns and the row */
+#define CAGBERIN_SET_ENTRIES 16       /* entries of one set, at most: 16 columns, or the row alone */
 #define CAGBERIN_RECORD_BYTES 8       /* bytes of an evidence record */
 
 /* ---- Codes ---- */
@@ -102,10 +103,11 @@ enum cagberin_refusal {
     CAGBERIN_SHORT_SHEET = -16,    /* short sheet: output under 4k + 8 bytes */
     CAGBERIN_FALSE_RECORD = -17,   /* an evidence record is not true, or the last one is broken */
     CAGBERIN_UNSOUND_ENTRY = -18,  /* an entry has an unknown table, column or right (as in -8 to -10), isn't backed,
-                                      fails, or contains another left that is listed for its target and right */
-    CAGBERIN_UNCOVERED_SET = -19   /* for some target and right of it, a backed set without that right neither
-                                      contains a left listed for the two nor lies inside the set of a record for the
-                                      two */
+                                      fails, contains another left that is listed for its target and right, or has a
+                                      column on the right and a left that is or contains a listed key of its target */
+    CAGBERIN_UNCOVERED_SET = -19   /* for some target and right of it, a backed set without that right contains neither
+                                      a left listed for the two nor a listed key of the target, and doesn't lie inside
+                                      the set of a record for the two */
 };
 
 /* ---- Dependencies and entries ---- */
@@ -121,15 +123,20 @@ enum cagberin_refusal {
  * one row.
  *
  * A dependency holds if all pairs of rows of the target that agree on the left agree on the right. It is minimal if
- * it holds, the right isn't in the left, and no left with a column less holds.
+ * it holds, the right isn't in the left, and no left with a column less holds. If the right is CAGBERIN_ROW and it
+ * holds, the left is a key of the target: it gives every column too.
  *
  * A left side, as any set of visible columns, is backed if some row of the target has all its cells: for each column
  * the cell of the row that it reaches in that column's table is present. The empty set is backed if the target has a
  * row. A dependency may hold though nothing backs its left side; then it is not listed.
  *
- * An entry names a dependency; those of a listing are the minimal ones whose left side is backed. Its fields stand in
- * the order target, right, left, as in a packed list; the arguments of the calls come in the order target, left, right.
- * The record has 4 bytes, is aligned to 2 and has no padding.
+ * An entry names a dependency; those of a listing are the minimal ones whose left side is backed, without those with a
+ * column on the right whose left is a key: a key stands for what it gives. Nothing is lost: a backed left side gives a
+ * right that isn't in it exactly if it contains a left that is listed for the target and that right, or a listed key of
+ * the target.
+ *
+ * The fields of an entry stand in the order target, right, left, as in a packed list; the arguments of the calls come
+ * in the order target, left, right. The record has 4 bytes, is aligned to 2 and has no padding.
  */
 struct cagberin_entry {
     uint8_t target;
@@ -194,10 +201,10 @@ int32_t cagberin_pair(const uint8_t *cat, size_t cat_len, uint32_t target, uint3
  * that after -13 every one is 0.
  *
  * A whole listing begins at place 0, hands each call the place that the one before reached, and is whole when that is
- * the number of sets: the entries of all calls, one after the other, are then every minimal dependency and key with a
- * backed left side, once, in listing order. Budgets, runs and work words may differ at each call. A return of 0 is not
- * the end: sets may have no entries. Budget 0 passes nothing, so a loop with it never ends. A run of
- * CAGBERIN_SET_ENTRIES records or more never gets -13.
+ * the number of sets: the entries of all calls, one after the other, are then the full listing: every minimal key with
+ * a backed left side, and every minimal dependency with a backed left side that is no key, once, in listing order.
+ * Budgets, runs and work words may differ at each call. A return of 0 is not the end: sets may have no entries. Budget
+ * 0 passes nothing, so a loop with it never ends. A run of CAGBERIN_SET_ENTRIES records or more never gets -13.
  *
  * With 2^n work words, CAGBERIN_MANY_WORDS for 16 columns, a target of n visible columns was mostly listed faster
  * where measured.
@@ -242,14 +249,15 @@ int64_t cagberin_read(const uint8_t *file, size_t len, size_t from, struct cagbe
  * column set (2), two rows of the target (2 each), little-endian. A record is true if -8 to -10 allow its target, set
  * and right, both rows exist, its right isn't in its set (CAGBERIN_ROW is in no set), and its two rows, in either
  * order, agree on the set and disagree on the right; it need not be backed. The list is accepted if all records are
- * true, each entry is backed, holds and contains no other left that is listed for its target and right, and, for every
- * target and every right of it, each backed set without that right contains a left listed for the two or lies inside
- * the set of a record for the two.
+ * true; each entry is backed, holds, contains no other left that is listed for its target and right and, if its right
+ * is a column, contains no listed key of its target, itself included; and, for every target and every right of it, each
+ * backed set without that right contains a left listed for the two or a listed key of the target, or lies inside the
+ * set of a record for the two.
  *
- * Returns the number of entries of the list. Its entries are then the full listing of the catalogue: every minimal
- * dependency and key with a backed left side, once, in listing order. And the full listing is accepted if all records
- * are true and, for every target and every right of it, each backed set without that right that doesn't give it lies
- * inside the set of a record for the two: a record for each largest such set is enough.
+ * Returns the number of entries of the list. Its entries are then the full listing of the catalogue, as a whole listing
+ * by cagberin_list has it. And the full listing is accepted if all records are true and, for every target and every
+ * right of it, each backed set without that right that doesn't give it lies inside the set of a record for the two: a
+ * record for each largest such set is enough.
  * Refusals: -1 to -7 for the catalogue, then -14, -15 for the list, then -17, -18, -19.
  *
  * Nothing is written. The three may overlap; bytes in front of the list, such as the catalogue, aren't looked at.

@@ -1,9 +1,9 @@
-//! Document 02 b in plain loops, as d alters it: the check of a supplier's list by evidence, and evidence for a full
-//! listing.
+//! Document 02 b in plain loops, as d and e alter it: the check of a supplier's list by evidence, and evidence for a
+//! full listing.
 //!
 //! Nothing here is fast. Each function renders one sentence of the request.
 
-use crate::simple::{self, Catalogue, Entry, Refusal};
+use crate::simple::{self, Catalogue, Entry, Refusal, ROW};
 
 // ---- Records ----
 
@@ -100,8 +100,9 @@ pub fn first_flaw(catalogue: &Catalogue, entries: &[Entry]) -> Option<&'static s
 }
 
 /// Why an entry is refused: it "falls under 8 to 10, fails, or contains another", that is "another listed left for its
-/// target and right"; or "besides the earlier grounds, an entry is unbacked" (02 d).
-fn flaw(catalogue: &Catalogue, entries: &[Entry], entry: &Entry) -> Option<&'static str> {
+/// target and right"; or "besides the earlier grounds, an entry is unbacked" (02 d), or "a column entry's left contains
+/// a listed key" (02 e) of its target: its own left, or a smaller one.
+pub fn flaw(catalogue: &Catalogue, entries: &[Entry], entry: &Entry) -> Option<&'static str> {
     let (target, left, right) = (entry.target as u32, entry.left as u32, entry.right as u32);
     if let Err(refusal) = simple::refused_sides(catalogue, target, left, right) {
         return Some(not_allowed(refusal));
@@ -117,7 +118,20 @@ fn flaw(catalogue: &Catalogue, entries: &[Entry], entry: &Entry) -> Option<&'sta
     if !simple::backed(catalogue, target as usize, left) {
         return Some("unbacked");
     }
+    let keys = listed_keys(entries, target as usize);
+    if right != ROW && keys.contains(&left) {
+        return Some("its left is a listed key");
+    }
+    if right != ROW && keys.iter().any(|key| inside(*key, left)) {
+        return Some("contains a listed key");
+    }
     None
+}
+
+/// The keys that a list has for a target: the lefts of its entries with the row on the right.
+fn listed_keys(entries: &[Entry], target: usize) -> Vec<u32> {
+    let keys = entries.iter().filter(|entry| entry.target as usize == target && entry.right as u32 == ROW);
+    keys.map(|entry| entry.left as u32).collect()
 }
 
 fn not_allowed(refusal: Refusal) -> &'static str {
@@ -136,16 +150,18 @@ fn inside(set: u32, other: u32) -> bool {
 /// What the first uncovered set lacks, of those that must be covered: "backed sets only" (02 d).
 pub fn first_gap(catalogue: &Catalogue, entries: &[Entry], records: &[Record]) -> Option<&'static str> {
     let (target, right, set) = first_uncovered(catalogue, entries, records, true)?;
-    if simple::holds(catalogue, target, set, right) {
-        Some("a set that holds contains no listed left")
-    } else {
+    if !simple::holds(catalogue, target, set, right) {
         Some("a set that fails lies inside no record")
+    } else if simple::repeats_key(catalogue, target, set, right) {
+        Some("a key contains neither a left listed for a column nor a listed key")
+    } else {
+        Some("a set that holds contains no listed left")
     }
 }
 
 /// The first uncovered set among the backed ones, or among the others, with its target and right. "For every target and
 /// every right of it, each set without that right contains a left listed for the two or lies inside the set of a record
-/// for the two."
+/// for the two." "A set also counts as covered if it contains a listed key of that target" (02 e).
 pub fn first_uncovered(
     catalogue: &Catalogue,
     entries: &[Entry],
@@ -153,6 +169,7 @@ pub fn first_uncovered(
     backed: bool,
 ) -> Option<(usize, u32, u32)> {
     for target in 0..catalogue.tables.len() {
+        let keys = listed_keys(entries, target);
         for right in simple::rights(catalogue, target) {
             let for_the_two = |of: u8, to: u8| of as usize == target && to as u32 == right;
             let lefts = entries.iter().filter(|entry| for_the_two(entry.target, entry.right));
@@ -163,8 +180,9 @@ pub fn first_uncovered(
                 if simple::backed(catalogue, target, set) != backed {
                     continue;
                 }
-                let covered =
-                    lefts.iter().any(|left| inside(*left, set)) || sets.iter().any(|above| inside(set, *above));
+                let covered = lefts.iter().any(|left| inside(*left, set))
+                    || keys.iter().any(|key| inside(*key, set))
+                    || sets.iter().any(|above| inside(set, *above));
                 if !covered {
                     return Some((target, right, set));
                 }

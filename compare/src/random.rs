@@ -353,14 +353,19 @@ pub fn draft_at_bound(random: &mut Random) -> Draft {
 
 // ---- Damage ----
 
+/// Whether so many bytes stand in the file from a place on. A damaged offset may be any number.
+fn within(file: &[u8], at: usize, bytes: usize) -> bool {
+    at <= file.len() && bytes <= file.len() - at
+}
+
 fn put16(file: &mut [u8], at: usize, number: usize) {
-    if at + 2 <= file.len() {
+    if within(file, at, 2) {
         file[at..at + 2].copy_from_slice(&(number as u16).to_le_bytes());
     }
 }
 
 fn put32(file: &mut [u8], at: usize, number: usize) {
-    if at + 4 <= file.len() {
+    if within(file, at, 4) {
         file[at..at + 4].copy_from_slice(&(number as u32).to_le_bytes());
     }
 }
@@ -423,7 +428,7 @@ fn damage_trailer(random: &mut Random, layout: &mut Layout) {
             let other = layout.offsets[random.below(t)];
             let choices = [
                 0,
-                offset + 1,
+                offset.wrapping_add(1),
                 offset.wrapping_sub(1),
                 other,
                 trailer,
@@ -472,7 +477,7 @@ fn damage_table(random: &mut Random, layout: &mut Layout) {
     let t = layout.offsets.len();
     let i = random.below(t);
     let at = layout.offsets[i];
-    if at + 6 > layout.file.len() {
+    if !within(&layout.file, at, 6) {
         return;
     }
     let number = |at: usize| layout.file[at] as usize + 256 * layout.file[at + 1] as usize;
@@ -485,7 +490,7 @@ fn damage_table(random: &mut Random, layout: &mut Layout) {
             let any = random.below(r);
             let row = at + 6 + random.pick(&[0, r - 1, any]) * (2 + 4 * c);
             let parent_rows = match layout.offsets.get(parent) {
-                Some(at) if at + 6 <= layout.file.len() => number(at + 4),
+                Some(at) if within(&layout.file, *at, 6) => number(at + 4),
                 _ => 0,
             };
             let choices = [0, parent_rows, parent_rows.wrapping_sub(1), parent_rows + 1, 65_534, 65_535];

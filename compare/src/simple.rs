@@ -1,4 +1,4 @@
-//! Document 01 in plain loops, with the requests of document 02 that have landed (a, d; b is in `evidence`): check,
+//! Document 01 in plain loops, with the requests of document 02 that have landed (a, d, e; b is in `evidence`): check,
 //! question, first breaking pair, full listing, listing call, packed list, the text that the listing program prints.
 //!
 //! Nothing here is fast. Each function renders one sentence or one table row of the documents, in their order.
@@ -269,9 +269,22 @@ pub fn backed(catalogue: &Catalogue, target: usize, left: u32) -> bool {
     false
 }
 
-/// Whether the left and right stand in the full listing: of the minimal ones "only backed ones are listed" (02 d).
+/// "With right 255 the left is a key": any key, minimal or not.
+pub fn key(catalogue: &Catalogue, target: usize, left: u32) -> bool {
+    holds(catalogue, target, left, ROW)
+}
+
+/// "Where a left side is a key, entries for single columns repeat it" (02 e).
+pub fn repeats_key(catalogue: &Catalogue, target: usize, left: u32, right: u32) -> bool {
+    right != ROW && key(catalogue, target, left)
+}
+
+/// Whether the left and right stand in the full listing: of the minimal ones "only backed ones are listed" (02 d), and
+/// "an entry with a column on the right is dropped if its left is a key" (02 e).
 pub fn listed(catalogue: &Catalogue, target: usize, left: u32, right: u32) -> bool {
-    backed(catalogue, target, left) && minimal(catalogue, target, left, right)
+    backed(catalogue, target, left)
+        && minimal(catalogue, target, left, right)
+        && !repeats_key(catalogue, target, left, right)
 }
 
 /// The rights of a target: its own columns by visible number, then the row.

@@ -3,9 +3,9 @@
 //! For two rows, their agree set is the set of visible columns on which they agree. `scan` stores at each agree
 //! set that occurs the rights that it breaks (bit k column k, bit n the row), and `mark` a further bit at the set of
 //! columns in which a row has cells; `close` ORs the words of all supersets into each word. Then bit a of word X is 1
-//! exactly if X does not give a, the further bit exactly if X is backed, and the minimal rights of X are read off
-//! directly. So are the largest sets that do not give a right: each lies inside the agree set of two rows, which are
-//! the evidence for it.
+//! exactly if X does not give a, so bit n exactly if X is no key, and the further bit exactly if X is backed; and the
+//! minimal rights of X are read off directly, where X is a key the row alone. So are the largest sets that do not give
+//! a right: each lies inside the agree set of two rows, which are the evidence for it.
 
 use crate::evidence::{Failing, Record};
 use crate::simple::{Catalogue, Entry, Row, MISSING, ROW};
@@ -15,16 +15,29 @@ const BACKED: u32 = 1 << 31;
 
 /// The full listing of a catalogue.
 pub fn listing(catalogue: &Catalogue) -> Vec<Entry> {
-    minimal(catalogue, true)
+    minimal(catalogue, Which::Listed)
 }
 
 /// The minimal dependencies and keys that are left out of it, since no row backs them.
 pub fn withheld(catalogue: &Catalogue) -> Vec<Entry> {
-    minimal(catalogue, false)
+    minimal(catalogue, Which::Withheld)
 }
 
-/// The minimal ones that are backed, or those that are not.
-fn minimal(catalogue: &Catalogue, backed: bool) -> Vec<Entry> {
+/// The minimal dependencies that are left out of it, since their left side is a key, and that a row backs.
+pub fn dropped(catalogue: &Catalogue) -> Vec<Entry> {
+    minimal(catalogue, Which::Dropped)
+}
+
+/// Each minimal dependency or key is one of these.
+#[derive(Clone, Copy)]
+enum Which {
+    Listed,
+    Withheld,
+    Dropped,
+}
+
+/// The minimal ones of a kind.
+fn minimal(catalogue: &Catalogue, which: Which) -> Vec<Entry> {
     let codes: Vec<Vec<Vec<u32>>> = (0..catalogue.tables.len()).map(|table| columns_of(catalogue, table)).collect();
     let mut entries = Vec::new();
     for target in 0..catalogue.tables.len() {
@@ -33,7 +46,7 @@ fn minimal(catalogue: &Catalogue, backed: bool) -> Vec<Entry> {
         scan(catalogue, &codes, target, &mut broken);
         mark(catalogue, target, &mut broken);
         close(n, &mut broken);
-        read_off(catalogue, target, backed, &broken, &mut entries);
+        read_off(catalogue, target, which, &broken, &mut entries);
     }
     entries
 }
@@ -201,18 +214,23 @@ fn in_listing_order(n: usize) -> Vec<u32> {
     sets
 }
 
-/// The minimal rights, of the left sides that are backed or of the others: not in the left, given by it, and by none of
-/// the lefts with a column less.
-fn read_off(catalogue: &Catalogue, target: usize, backed: bool, broken: &[u32], entries: &mut Vec<Entry>) {
+/// The minimal rights of a kind: not in the left, given by it, and by none of the lefts with a column less.
+fn read_off(catalogue: &Catalogue, target: usize, which: Which, broken: &[u32], entries: &mut Vec<Entry>) {
     let table = &catalogue.tables[target];
     let n = table.visible.len();
     let inherited = n - table.own;
-    let rights = ((2u32 << n) - 1) & !((1 << inherited) - 1);
+    let (row, columns) = (1u32 << n, (1u32 << n) - (1 << inherited));
     for left in in_listing_order(n) {
-        if (broken[left as usize] & BACKED != 0) != backed {
-            continue;
-        }
-        let mut minimal = rights & !left & !broken[left as usize];
+        let word = broken[left as usize];
+        let (backed, key) = (word & BACKED != 0, word & row == 0);
+        let rights = match which {
+            Which::Listed if backed && key => row,
+            Which::Listed if backed => columns,
+            Which::Withheld if !backed => columns | row,
+            Which::Dropped if backed && key => columns,
+            _ => continue,
+        };
+        let mut minimal = rights & !left & !word;
         let mut members = left;
         while members != 0 && minimal != 0 {
             minimal &= broken[(left & !(members & members.wrapping_neg())) as usize];

@@ -3,8 +3,8 @@
 //! Rows are grouped by their agreement on a set of visible columns; groups of one row are dropped. A set's
 //! error is the number of rows kept less the number of groups: 0 exactly for a key, and X gives a exactly if X
 //! and X with a have the same error. All visible columns are right sides of the search, since each prunes; only
-//! own columns are listed. Minimal keys are listed too, and the minimal dependencies whose left side is a key; of all
-//! these, those that a row backs.
+//! own columns are listed. Minimal keys are listed too; the search ends at them, so that it finds no dependency whose
+//! left side is a key. Of what it finds, that is listed which a row backs.
 
 use crate::simple::{position, Catalogue, Entry, MISSING, ROW};
 use crate::table;
@@ -40,7 +40,8 @@ struct Scratch {
     place: Vec<u32>,
 }
 
-/// The rows grouped by both partitions.
+/// The rows grouped by both partitions. Within its caller it would be compiled to slower code.
+#[inline(never)]
 fn product(a: &Partition, b: &Partition, scratch: &mut Scratch) -> Partition {
     for (g, group) in a.groups().enumerate() {
         group.iter().for_each(|row| scratch.group_of[*row as usize] = g as u32 + 1);
@@ -98,8 +99,6 @@ fn column_partition(catalogue: &Catalogue, target: usize, k: usize) -> Partition
     partition
 }
 
-const UNKNOWN: u32 = u32::MAX;
-
 /// A set of columns with its partition.
 struct Node {
     set: u32,
@@ -108,9 +107,8 @@ struct Node {
 
 struct Search {
     n: usize,
-    columns: Vec<Partition>,
     scratch: Scratch,
-    /// For each set its error, or UNKNOWN.
+    /// For each set of a level its error.
     error: Vec<u32>,
     /// For each set of a level the right sides that may still be minimal at it or above it.
     candidates: Vec<u32>,
@@ -143,30 +141,24 @@ fn distinct_present(catalogue: &Catalogue, target: usize) -> Vec<u32> {
     present
 }
 
-/// The minimal dependencies (left, right) of a target over all its visible columns, and its minimal keys.
+/// The minimal dependencies (left, right) of a target over all its visible columns whose left side is no key, and its
+/// minimal keys.
 fn minimal(catalogue: &Catalogue, target: usize) -> Vec<(u32, u32)> {
     let rows = catalogue.tables[target].rows.len();
     let n = catalogue.tables[target].visible.len();
     if rows < 2 {
-        return (0..n as u32).chain([ROW]).map(|right| (0, right)).collect();
+        return vec![(0, ROW)];
     }
     let scratch = Scratch { group_of: vec![0; rows], count: vec![0; rows + 1], place: vec![u32::MAX; rows + 1] };
-    let columns: Vec<Partition> = (0..n).map(|k| column_partition(catalogue, target, k)).collect();
-    let (error, candidates) = (vec![UNKNOWN; 1 << n], vec![0; 1 << n]);
-    let mut search = Search { n, columns, scratch, error, candidates, found: Vec::new() };
-    let whole = Partition { rows: (0..rows as u16).collect(), ends: vec![rows as u32] };
-    search.error[0] = whole.error();
+    let (error, candidates) = (vec![0; 1 << n], vec![0; 1 << n]);
+    let mut search = Search { n, scratch, error, candidates, found: Vec::new() };
+    search.error[0] = rows as u32 - 1;
     search.candidates[0] = (1 << n) - 1;
-    let mut before = vec![Node { set: 0, partition: whole }];
-    let mut level: Vec<Node> = (0..n).map(|k| search.single(k)).collect();
+    let mut level: Vec<Node> = (0..n).map(|k| search.node(1 << k, column_partition(catalogue, target, k))).collect();
     while !level.is_empty() {
         level.iter().for_each(|node| search.dependencies(node.set));
-        let kept: Vec<bool> = level.iter().map(|node| search.keep(node.set, &before)).collect();
-        let mut keep = kept.into_iter();
-        level.retain(|_| keep.next().unwrap());
-        let next = search.next_level(&level);
-        before = level;
-        level = next;
+        level.retain(|node| search.keep(node.set));
+        level = search.next_level(&level);
     }
     search.found
 }
@@ -176,11 +168,9 @@ fn members(set: u32) -> impl Iterator<Item = usize> {
 }
 
 impl Search {
-    fn single(&mut self, k: usize) -> Node {
-        let column = &self.columns[k];
-        let partition = Partition { rows: column.rows.clone(), ends: column.ends.clone() };
-        self.error[1 << k] = partition.error();
-        Node { set: 1 << k, partition }
+    fn node(&mut self, set: u32, partition: Partition) -> Node {
+        self.error[set as usize] = partition.error();
+        Node { set, partition }
     }
 
     /// Finds the dependencies from the set less one column to that column.
@@ -199,39 +189,20 @@ impl Search {
         self.candidates[set as usize] = candidates;
     }
 
-    /// Whether the search goes on above the set. A key is listed here, with the right sides that it gives at least.
-    fn keep(&mut self, set: u32, before: &[Node]) -> bool {
+    /// Whether the search goes on above the set. A key is listed here: all sets one smaller were kept and are no keys,
+    /// so it is a minimal one. None of a minimal key's right sides has been given up.
+    fn keep(&mut self, set: u32) -> bool {
         if self.candidates[set as usize] == 0 {
             return false;
         }
-        if self.error[set as usize] != 0 {
-            return true;
+        let key = self.error[set as usize] == 0;
+        if key {
+            self.found.push((set, ROW));
         }
-        self.found.push((set, ROW));
-        for right in members(self.candidates[set as usize] & !set) {
-            if !members(set).any(|k| self.gives(set & !(1 << k), right, before)) {
-                self.found.push((set, right as u32));
-            }
-        }
-        false
+        !key
     }
 
-    /// Whether a set of the level before gives the right side. The larger set may have been pruned.
-    fn gives(&mut self, left: u32, right: usize, before: &[Node]) -> bool {
-        let set = left | 1 << right;
-        if self.error[set as usize] == UNKNOWN {
-            let key_below = members(set).any(|k| self.error[(set & !(1 << k)) as usize] == 0);
-            self.error[set as usize] = if key_below { 0 } else { self.error_of_product(left, right, before) };
-        }
-        self.error[set as usize] == self.error[left as usize]
-    }
-
-    fn error_of_product(&mut self, left: u32, right: usize, before: &[Node]) -> u32 {
-        let at = before.binary_search_by_key(&left, |node| node.set).expect("a set of the level before");
-        product(&before[at].partition, &self.columns[right], &mut self.scratch).error()
-    }
-
-    /// The sets one larger, all of whose sets one smaller were kept, in ascending order.
+    /// The sets one larger, all of whose sets one smaller were kept.
     fn next_level(&mut self, level: &[Node]) -> Vec<Node> {
         let mut kept = vec![None; 1 << self.n];
         level.iter().for_each(|node| kept[node.set as usize] = Some(node));
@@ -243,12 +214,10 @@ impl Search {
                 if members(set).all(|k| kept[(set & !(1 << k)) as usize].is_some()) {
                     let b = kept[(set & !(1 << top)) as usize].unwrap();
                     let partition = product(&a.partition, &b.partition, &mut self.scratch);
-                    self.error[set as usize] = partition.error();
-                    next.push(Node { set, partition });
+                    next.push(self.node(set, partition));
                 }
             }
         }
-        next.sort_by_key(|node| node.set);
         next
     }
 }

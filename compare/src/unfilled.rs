@@ -1,128 +1,94 @@
 //! Catalogues by name with cells that nobody filled, or without rows: what is listed there depends on what a row backs
 //! (document 02 d).
 
+use crate::named::{root, under, Named};
 use crate::random::{Draft, DraftTable, Random};
 use crate::simple::{MISSING, NO_PARENT};
-
-/// An entry as the listing program prints it: target, left, right.
-pub type Line = (u8, u16, u8);
-
-/// A small catalogue, its full listing, and the minimal dependencies and keys that no row backs, both worked out by
-/// hand.
-pub struct Unfilled {
-    pub name: &'static str,
-    pub draft: Draft,
-    pub listed: Vec<Line>,
-    pub withheld: Vec<Line>,
-}
 
 const M: u32 = MISSING;
 const ROW: u8 = 255;
 
-/// A root of so many columns with these rows.
-fn root(columns: usize, rows: &[&[u32]]) -> DraftTable {
-    let rows = rows.iter().map(|codes| (NO_PARENT, codes.to_vec())).collect();
-    DraftTable { columns, parent: NO_PARENT, rows }
-}
-
-/// A table of so many columns under another, with these rows: parent row and codes.
-fn under(parent: usize, columns: usize, rows: &[(usize, &[u32])]) -> DraftTable {
-    let rows = rows.iter().map(|(parent, codes)| (*parent, codes.to_vec())).collect();
-    DraftTable { columns, parent, rows }
-}
-
-fn unfilled(name: &'static str, tables: Vec<DraftTable>, listed: &[Line], withheld: &[Line]) -> Unfilled {
-    Unfilled { name, draft: Draft { tables }, listed: listed.to_vec(), withheld: withheld.to_vec() }
-}
-
 /// All small ones.
-pub fn small() -> Vec<Unfilled> {
+pub fn small() -> Vec<Named> {
     [without_rows(), in_one_table(), in_a_table_above()].into_iter().flatten().collect()
 }
 
-fn without_rows() -> Vec<Unfilled> {
+fn without_rows() -> Vec<Named> {
     vec![
-        unfilled("no rows and no columns", vec![root(0, &[])], &[], &[(0, 0, ROW)]),
+        Named::new("no rows and no columns", vec![root(0, &[])]).withholds(&[(0, 0, ROW)]),
         // K6
-        unfilled("no rows", vec![root(2, &[])], &[], &[(0, 0, 0), (0, 0, 1), (0, 0, ROW)]),
-        unfilled(
-            "a root without rows, and a table under it",
-            vec![root(1, &[]), under(0, 1, &[])],
-            &[],
-            &[(0, 0, 0), (0, 0, ROW), (1, 0, 1), (1, 0, ROW)],
-        ),
+        Named::new("no rows", vec![root(2, &[])]).withholds(&[(0, 0, 0), (0, 0, 1), (0, 0, ROW)]),
+        Named::new("a root without rows, and a table under it", vec![root(1, &[]), under(0, 1, &[])]).withholds(&[
+            (0, 0, 0),
+            (0, 0, ROW),
+            (1, 0, 1),
+            (1, 0, ROW),
+        ]),
         // table 3 has rows, tables 1 and 2 have none
-        unfilled(
+        Named::new(
             "no rows under a table with rows",
             vec![root(1, &[&[1], &[2]]), under(0, 1, &[]), under(1, 1, &[]), under(0, 1, &[(0, &[3]), (1, &[3])])],
-            &[(0, 1, ROW), (3, 0, 1), (3, 1, ROW)],
-            &[(1, 0, 1), (1, 0, ROW), (2, 0, 2), (2, 0, ROW)],
-        ),
+        )
+        .lists(&[(0, 1, ROW), (3, 0, 1), (3, 1, ROW)])
+        .withholds(&[(1, 0, 1), (1, 0, ROW), (2, 0, 2), (2, 0, ROW)]),
     ]
 }
 
-fn in_one_table() -> Vec<Unfilled> {
+fn in_one_table() -> Vec<Named> {
     vec![
-        // K7: the row backs the empty set
-        unfilled("one row, its cell missing", vec![root(1, &[&[M]])], &[(0, 0, 0), (0, 0, ROW)], &[]),
+        // K7: the row backs the empty set, which is a key
+        Named::new("one row, its cell missing", vec![root(1, &[&[M]])]).lists(&[(0, 0, ROW)]).drops(&[(0, 0, 0)]),
         // K8
-        unfilled("two rows, both cells missing", vec![root(1, &[&[M], &[M]])], &[], &[(0, 1, ROW)]),
-        unfilled(
-            "a column without cells",
-            vec![root(3, &[&[1, M, 5], &[2, M, 5], &[3, M, 6]])],
-            &[(0, 1, 1), (0, 1, 2), (0, 1, ROW)],
-            &[(0, 2, 0), (0, 2, 2), (0, 2, ROW)],
-        ),
+        Named::new("two rows, both cells missing", vec![root(1, &[&[M], &[M]])]).withholds(&[(0, 1, ROW)]),
+        Named::new("a column without cells", vec![root(3, &[&[1, M, 5], &[2, M, 5], &[3, M, 6]])])
+            .lists(&[(0, 1, ROW)])
+            .withholds(&[(0, 2, 0), (0, 2, 2), (0, 2, ROW)])
+            .drops(&[(0, 1, 1), (0, 1, 2)]),
         // a row backs {0} and another {1}, none both
-        unfilled(
-            "cells of two columns in different rows",
-            vec![root(2, &[&[1, M], &[1, M], &[M, 2], &[M, 2]])],
-            &[],
-            &[(0, 3, ROW)],
-        ),
+        Named::new("cells of two columns in different rows", vec![root(2, &[&[1, M], &[1, M], &[M, 2], &[M, 2]])])
+            .withholds(&[(0, 3, ROW)]),
         // the same beside a column that all rows have
-        unfilled(
+        Named::new(
             "cells of two of three columns in different rows",
             vec![root(3, &[&[1, M, 5], &[1, M, 6], &[M, 2, 5], &[M, 2, 7]])],
-            &[(0, 5, 1), (0, 5, ROW), (0, 6, 0), (0, 6, ROW)],
-            &[(0, 3, 2), (0, 3, ROW)],
-        ),
-        unfilled("all cells but one", vec![but_one(3, false)], &[], &[(0, 7, ROW)]),
-        unfilled("all cells but one, and a whole row", vec![but_one(3, true)], &[(0, 7, ROW)], &[]),
+        )
+        .lists(&[(0, 5, ROW), (0, 6, ROW)])
+        .withholds(&[(0, 3, 2), (0, 3, ROW)])
+        .drops(&[(0, 5, 1), (0, 6, 0)]),
+        Named::new("all cells but one", vec![but_one(3, false)]).withholds(&[(0, 7, ROW)]),
+        Named::new("all cells but one, and a whole row", vec![but_one(3, true)]).lists(&[(0, 7, ROW)]),
     ]
 }
 
-fn in_a_table_above() -> Vec<Unfilled> {
+fn in_a_table_above() -> Vec<Named> {
     vec![
-        unfilled(
+        Named::new(
             "cells missing in the table above only",
             vec![root(1, &[&[M], &[M]]), under(0, 1, &[(0, &[1]), (0, &[2]), (1, &[1]), (1, &[2])])],
-            &[],
-            &[(0, 1, ROW), (1, 3, ROW)],
-        ),
+        )
+        .withholds(&[(0, 1, ROW), (1, 3, ROW)]),
         // in table 1 three rows have their own cell and one has that above, none both
-        unfilled(
+        Named::new(
             "own cells under missing ones, and missing ones under a cell",
             vec![root(1, &[&[M], &[5], &[M]]), under(0, 1, &[(0, &[1]), (0, &[2]), (1, &[M]), (2, &[1])])],
-            &[(0, 1, ROW)],
-            &[(1, 3, ROW)],
-        ),
+        )
+        .lists(&[(0, 1, ROW)])
+        .withholds(&[(1, 3, ROW)]),
         // row 2 above does no harm
-        unfilled(
+        Named::new(
             "a missing cell in a row that is not reached",
             vec![root(1, &[&[5], &[6], &[M]]), under(0, 1, &[(0, &[1]), (1, &[1])])],
-            &[(0, 1, ROW), (1, 0, 1), (1, 1, ROW)],
-            &[],
-        ),
+        )
+        .lists(&[(0, 1, ROW), (1, 0, 1), (1, 1, ROW)]),
         // row 2 above backs {0} in its own table alone
-        unfilled(
+        Named::new(
             "a cell in a row that is not reached",
             vec![root(1, &[&[M], &[M], &[5]]), under(0, 1, &[(0, &[1]), (1, &[1])])],
-            &[(0, 1, ROW), (1, 0, 1)],
-            &[(1, 1, ROW)],
-        ),
+        )
+        .lists(&[(0, 1, ROW), (1, 0, 1)])
+        .withholds(&[(1, 1, ROW)]),
         // table 2 reaches rows 2 and 3 of the root and table 4 rows 0 and 1, neither by their own numbers all the way
-        unfilled(
+        Named::new(
             "cells two tables up",
             vec![
                 root(1, &[&[7], &[8], &[M], &[M]]),
@@ -131,9 +97,9 @@ fn in_a_table_above() -> Vec<Unfilled> {
                 under(0, 0, &[(3, &[]), (3, &[]), (0, &[]), (1, &[])]),
                 under(3, 0, &[(2, &[]), (3, &[])]),
             ],
-            &[(0, 1, ROW), (4, 1, ROW)],
-            &[(1, 1, ROW), (2, 1, ROW)],
-        ),
+        )
+        .lists(&[(0, 1, ROW), (4, 1, ROW)])
+        .withholds(&[(1, 1, ROW), (2, 1, ROW)]),
     ]
 }
 

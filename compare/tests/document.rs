@@ -1,5 +1,5 @@
 //! The simple implementation on document 01's own cases (the album, K1 to K11 and the boundary cases), on the first of
-//! several breaking pairs (02 a), and on what a row backs (02 d).
+//! several breaking pairs (02 a), on what a row backs (02 d), and on what a key stands for (02 e).
 
 use compare::simple::*;
 
@@ -36,6 +36,11 @@ fn words() -> Vec<u32> {
     vec![9; WORK_WORDS]
 }
 
+/// The full listing as the listing program prints it: target, left, right.
+fn lines(catalogue: &Catalogue) -> Vec<(u8, u16, u8)> {
+    full_listing(catalogue).concat().iter().map(|entry| (entry.target, entry.left, entry.right)).collect()
+}
+
 fn answer(file: &[u8], target: u32, left: u32, right: u32) -> bool {
     ask(&check(file).unwrap(), target, left, right, &mut words()).unwrap()
 }
@@ -54,9 +59,7 @@ fn the_album_is_the_file_beside_the_examples() {
 fn the_album_lists_three_entries() {
     let catalogue = check(&album()).unwrap();
     assert_eq!((catalogue.tables.len(), catalogue.sets()), (2, 10));
-    let entries: Vec<(u8, u16, u8)> =
-        full_listing(&catalogue).concat().iter().map(|entry| (entry.target, entry.left, entry.right)).collect();
-    assert_eq!(entries, [(1, 1, 2), (1, 3, 255), (1, 6, 255)]);
+    assert_eq!(lines(&catalogue), [(1, 1, 2), (1, 3, 255), (1, 6, 255)]);
 }
 
 #[test]
@@ -68,7 +71,6 @@ fn cases_k1_to_k9() {
     assert!(answer(&album, 1, 6, ROW));
     assert!(!answer(&album, 0, 0, 0));
     assert!(answer(&album, 0, 1, 0));
-    assert!(!listed(&check(&album).unwrap(), 0, 1, 0));
     assert!(answer(&file(&[(1, ROOT, &[])]), 0, 0, ROW));
     assert!(answer(&file(&[(1, ROOT, &[(ROOT, &[MISSING])])]), 0, 0, 0));
     assert!(answer(&file(&[(1, ROOT, &[(ROOT, &[MISSING]), (ROOT, &[MISSING])])]), 0, 1, ROW));
@@ -76,32 +78,61 @@ fn cases_k1_to_k9() {
     assert!(!answer(&equal, 1, 3, ROW));
 }
 
-/// Whether a dependency of table 0 holds, is minimal, is backed and is listed.
-fn four(file: &[u8], left: u32, right: u32) -> [bool; 4] {
-    let catalogue = check(file).unwrap();
-    let backed = backed(&catalogue, 0, left);
-    [answer(file, 0, left, right), minimal(&catalogue, 0, left, right), backed, listed(&catalogue, 0, left, right)]
+/// K1's entry is listed, since {0} is no key of table 1, and so is K3's key. K9's rows have no key, so that the columns
+/// which the empty set gives are listed; of the one row above them it is the key.
+#[test]
+fn cases_k1_to_k9_listed_or_not() {
+    let album = check(&album()).unwrap();
+    assert!(listed(&album, 1, 1, 2) && !key(&album, 1, 1));
+    assert!(listed(&album, 1, 6, ROW) && key(&album, 1, 6));
+    assert!(!listed(&album, 1, 2, 2) && !listed(&album, 0, 0, 0) && !listed(&album, 0, 1, 0));
+    let equal = check(&file(&[(0, ROOT, &[(ROOT, &[])]), (2, 0, &[(0, &[1, 2]), (0, &[1, 2])])])).unwrap();
+    assert_eq!(lines(&equal), [(0, 0, 255), (1, 0, 0), (1, 0, 1)]);
 }
 
-/// "A table without rows now lists nothing; K8's key holds and is unlisted."
+/// Whether a dependency of table 0 holds, is minimal, is backed, repeats a key, and is listed.
+fn five(file: &[u8], left: u32, right: u32) -> [bool; 5] {
+    let catalogue = check(file).unwrap();
+    let [minimal, repeats_key, listed] = [minimal, repeats_key, listed].map(|of| of(&catalogue, 0, left, right));
+    [answer(file, 0, left, right), minimal, backed(&catalogue, 0, left), repeats_key, listed]
+}
+
+/// "A table without rows now lists nothing; K8's key holds and is unlisted." Of K7's one row the key alone is listed.
 #[test]
 fn cases_k6_to_k8_listed_or_not() {
     let no_rows = file(&[(1, ROOT, &[])]);
-    assert_eq!(four(&no_rows, 0, ROW), [true, true, false, false]);
-    assert_eq!(four(&no_rows, 0, 0), [true, true, false, false]);
-    assert!(full_listing(&check(&no_rows).unwrap()).concat().is_empty());
-    // the row backs the empty set, its missing cell notwithstanding
+    assert_eq!(five(&no_rows, 0, ROW), [true, true, false, false, false]);
+    assert_eq!(five(&no_rows, 0, 0), [true, true, false, true, false]);
+    assert!(lines(&check(&no_rows).unwrap()).is_empty());
+    // the row backs the empty set, its missing cell notwithstanding; the empty set is a key
     let one_row = file(&[(1, ROOT, &[(ROOT, &[MISSING])])]);
-    assert_eq!(four(&one_row, 0, 0), [true; 4]);
-    assert_eq!(four(&one_row, 0, ROW), [true; 4]);
-    assert_eq!(four(&one_row, 1, ROW), [true, false, false, false]);
+    assert_eq!(five(&one_row, 0, 0), [true, true, true, true, false]);
+    assert_eq!(five(&one_row, 0, ROW), [true, true, true, false, true]);
+    assert_eq!(five(&one_row, 1, ROW), [true, false, false, false, false]);
+    assert_eq!(lines(&check(&one_row).unwrap()), [(0, 0, 255)]);
     let two_rows = file(&[(1, ROOT, &[(ROOT, &[MISSING]), (ROOT, &[MISSING])])]);
-    assert_eq!(four(&two_rows, 1, ROW), [true, true, false, false]);
-    assert_eq!(four(&two_rows, 0, ROW), [false, false, true, false]);
-    assert!(full_listing(&check(&two_rows).unwrap()).concat().is_empty());
+    assert_eq!(five(&two_rows, 1, ROW), [true, true, false, false, false]);
+    assert_eq!(five(&two_rows, 0, ROW), [false, false, true, false, false]);
+    assert!(lines(&check(&two_rows).unwrap()).is_empty());
     // one cell more
     let with_a_cell = file(&[(1, ROOT, &[(ROOT, &[MISSING]), (ROOT, &[7])])]);
-    assert_eq!(four(&with_a_cell, 1, ROW), [true; 4]);
+    assert_eq!(five(&with_a_cell, 1, ROW), [true, true, true, false, true]);
+}
+
+/// In the album's table 1 the keys are {0, 1}, {1, 2} and the full set. {0, 1} gives 2, and so does {0}, which is no
+/// key; {1, 2} has both own columns in it. Table 0 has no key.
+#[test]
+fn the_album_drops_no_entry() {
+    let catalogue = check(&album()).unwrap();
+    let keys = |target: usize, sets: u32| (0..sets).filter(|left| key(&catalogue, target, *left)).collect::<Vec<u32>>();
+    assert_eq!((keys(0, 2), keys(1, 8)), (vec![], vec![3, 6, 7]));
+    assert!(repeats_key(&catalogue, 1, 3, 2) && !minimal(&catalogue, 1, 3, 2));
+    for right in rights(&catalogue, 1) {
+        for left in 0..8 {
+            let stands = backed(&catalogue, 1, left) && minimal(&catalogue, 1, left, right);
+            assert_eq!(listed(&catalogue, 1, left, right), stands);
+        }
+    }
 }
 
 /// Every left side of the album's table 1: rows 0 and 1 have all cells, rows 2 and 3 lack that of column 0. In table 0
@@ -203,6 +234,8 @@ fn lists_are_read_into_runs() {
 fn the_text_of_the_listing_program() {
     let text = |input: &[u8]| printed(input, |catalogue| full_listing(catalogue).concat());
     assert_eq!(text(&album()), "tables 2 sets 10 entries 3\n1 1 2\n1 3 row\n1 6 row\n");
+    let one_row = file(&[(1, ROOT, &[(ROOT, &[MISSING])])]);
+    assert_eq!(text(&one_row), "tables 1 sets 2 entries 1\n0 0 row\n");
     assert_eq!(text(&[0; 15]), "refused 1\n");
     assert_eq!(text(&[0; 32_768]), "refused 2\n");
     assert_eq!(text(&[0; 32_769]), "too long\n");

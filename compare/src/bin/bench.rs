@@ -15,9 +15,9 @@
 //! a column of each four. In a flat shape the last column is a function of two others and
 //! the one before it of three; in a line the last column is a function of its table's first and the root's
 //! first. So most dependencies with small left sides break, some hold, and keys are larger in the `-few`
-//! shapes. That matters to TANE, whose work grows with the size of the keys; the table's does not. Rows stand
-//! in document order: parent rows ascend. `nested-16` is a line of 16 tables with one column and 4,096 rows each, whose
-//! last column is a function of the root's. In `one-chain` all codes of a column fall into one chain of the
+//! shapes. That matters to TANE, which ends at the keys and whose work grows with their size; the table's does not.
+//! Rows stand in document order: parent rows ascend. `nested-16` is a line of 16 tables with one column and 4,096 rows
+//! each, whose last column is a function of the root's. In `one-chain` all codes of a column fall into one chain of the
 //! library's grouping of rows, the worst that can happen to it in one table, and in `one-chain-nested` in each of 16
 //! nested tables, whose keys a listing lays for every target.
 //!
@@ -578,9 +578,11 @@ fn main() {
             exit(2)
         };
         let catalogue = simple::check(&shape.file).unwrap();
-        let (entries, withheld) = (table::listing(&catalogue).len(), table::withheld(&catalogue).len());
+        let [entries, withheld, dropped] =
+            [table::listing, table::withheld, table::dropped].map(|of| of(&catalogue).len());
         println!(
-            "{name}: {} bytes, {} sets, {entries} entries, {withheld} more that no row backs",
+            "{name}: {} bytes, {} sets, {entries} entries, {withheld} more that no row backs, \
+             {dropped} more that repeat a key",
             shape.file.len(),
             catalogue.sets()
         );

@@ -1,4 +1,3 @@
-pub mod Minimal
 pub mod Entries
 pub mod Full
 pub mod Grounds

@@ -1,4 +1,4 @@
--- What the check of a packed list by evidence promises (document 02, b and d): what is accepted is the full listing,
+-- What the check of a packed list by evidence promises (document 02, b, d and e): what is accepted is the full listing,
 -- and a full listing is accepted if all records are true and each backed failing set has one above it.
 use Prim.Native.Nat.{ℕ}
 use mathlib.Core.Path.{_≡_}

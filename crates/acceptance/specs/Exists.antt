@@ -1,5 +1,5 @@
--- Evidence for a catalogue (document 02, b and d): for each target, each right of it and each backed set without that
--- right for which the dependency fails, one record, with the first breaking pair. There are more records than are
+-- Evidence for a catalogue (document 02, b, d and e): for each target, each right of it and each backed set without
+-- that right for which the dependency fails, one record, with the first breaking pair. There are more records than are
 -- needed, but each backed failing set has its own.
 use Prim.Native.Nat.{ℕ, zero, suc, _^_}
 use mathlib.Core.Bool.{Bool, not, _&&_}

@@ -1,5 +1,5 @@
--- The replies of the check by evidence, in words (document 02, b and d): what each refusal says, that nothing else is
--- refused by it, the order, and that there are no others.
+-- The replies of the check by evidence, in words (document 02, b, d and e): what each refusal says, that nothing else
+-- is refused by it, the order, and that there are no others.
 use Prim.Native.Nat.{ℕ, _≤_}
 use mathlib.Core.Path.{_≡_}
 use mathlib.Core.Logic.{_⊎_, _↔_}
@@ -21,7 +21,8 @@ abbrev pub HasFalseRecord : List ℕ → List ℕ → Type 0
 HasFalseRecord cat bytes =
     (T (unbroken bytes) → ⊥) ⊎ ((e : Evidence) × List·Memᴰ e (recordsHeld bytes) × (TrueRecord cat e → ⊥))
 
--- an entry is not sound: it falls under 8 to 10, is unbacked, fails, or contains another
+-- an entry is not sound: it falls under 8 to 10, is unbacked, fails, contains another, or is a column's and contains a
+-- listed key
 abbrev pub HasUnsoundEntry : List ℕ → List Entry → Type 0
 HasUnsoundEntry cat es = (e : Entry) × List·Memᴰ e es × (SoundEntry cat es e → ⊥)
 

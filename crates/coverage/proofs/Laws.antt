@@ -9,6 +9,7 @@ use native.Mathlib.Decide.{ℕ-discrete}
 use native.Mathlib.Omega.{arith}
 use Rattle.columns.specs.Bound.{columnBound}
 use Rattle.columns.specs.Set.{bit}
+use Rattle.model.specs.Bounds.{row}
 use Rattle.model.specs.Catalogue.{tables, visible, inherited}
 use Rattle.model.specs.Check.{Accepted}
 use Rattle.model.specs.Evidence.{TrueRecord}
@@ -35,12 +36,13 @@ use Rattle.coverage.specs.Covered.{RightCovered, TargetCovered}
 
 -- one right, by planes that were closed for it
 pub right-covered-is : (v : View) (es : List Entry) (rs : List Evidence) (target right n m a : ℕ)
-    (backed lefts sets : List ℕ) {r : Bool} → right ≡ rightAt n a → n ≤ m → v .members ≡ n → BackedPlane v backed
-    → LeftsClosed es target right m lefts → SetsClosed rs target right m sets
-    → (r ≡ true) ↔ ((x : ℕ) → x < 2 ^ n → CoveredBy backed lefts sets m a x)
+    (backed keys lefts sets : List ℕ) {r : Bool} → right ≡ rightAt n a → n ≤ m → v .members ≡ n
+    → BackedPlane v backed → LeftsClosed es target row m keys → LeftsClosed es target right m lefts
+    → SetsClosed rs target right m sets
+    → (r ≡ true) ↔ ((x : ℕ) → x < 2 ^ n → CoveredBy backed keys lefts sets m a x)
     → (r ≡ true) ↔ RightCovered v es rs target n a
-right-covered-is v es rs target right n m a backed lefts sets {r} e h en plane left set all =
-    let is = all-covered-is v es rs target right n m a backed lefts sets h en plane left set in
+right-covered-is v es rs target right n m a backed keys lefts sets {r} e h en plane key left set all =
+    let is = all-covered-is v es rs target right n m a backed keys lefts sets h en plane key left set in
     subst (λ (c : ℕ). (r ≡ true) ↔ ((x : ℕ) → x < 2 ^ n → bit x a ≡ 0 → Backed v x → Covered es rs target c x)) e
     (same-answer (is .0) (is .1) all)
 

@@ -1,4 +1,4 @@
--- When the sets of a target are covered, step by step (document 02, b and d).
+-- When the sets of a target are covered, step by step (document 02, b, d and e).
 use Prim.Native.Nat.{ℕ, _^_, _<_}
 use mathlib.Core.Path.{_≡_}
 use mathlib.Core.List.{List}

@@ -14,7 +14,8 @@ use Rattle.model.specs.Refusal.{number}
 use Rattle.model.specs.declared.Refusal.the-variants.{UnknownTable, UnknownColumn, UnknownRight}
 use Rattle.model.specs.Question.{targetCode, leftSideCode, rightSideCode, sidesCode}
 use Rattle.model.specs.Listing.{ordinary, rightsOf}
-use Rattle.model.specs.Verify.{EntryFor, RecordFor}
+use Rattle.model.specs.Contains.{EntryFor}
+use Rattle.model.specs.Verify.{RecordFor}
 use Rattle.model.specs.declared.Entry.{Entry}
 use Rattle.model.specs.declared.Evidence.{Evidence}
 use Rattle.model.proofs.Grounds.{orElse-both, orElse-none, ifLt-passes, ifLt-fails}

@@ -8,14 +8,16 @@ use mathlib.Core.List.{List, List·Memᴰ}
 use lib.Dec.{T, eqb, ltb, ltb→lt, lt→ltb}
 use Rattle.columns.specs.Set.{withinOf}
 use Rattle.columns.proofs.Bits.{within-members, members-within}
+use Rattle.model.specs.Bounds.{row}
 use Rattle.model.specs.Catalogue.{tables, visible, rows}
 use Rattle.model.specs.View.{In, Backed, isIn, agreeOn, agreeRight, holds, backed, allBelow}
 use Rattle.model.specs.Target.{view}
 use Rattle.model.specs.Question.{sidesCode}
 use Rattle.model.specs.Listing.{ordinary, rightsOf}
 use Rattle.model.specs.Evidence.{TrueRecord, isTrueRecord, allIn, someIn, recordsHeld, unbroken}
-use Rattle.model.specs.Verify.{Inside, EntryFor, SoundEntry, Candidate, ContainsListed, InsideRecord, Covered}
-use Rattle.model.specs.Verify.{TrueRecords, SoundEntries, CoveredSets, isFor, isSoundEntry, isCovered}
+use Rattle.model.specs.Contains.{Inside, EntryFor, ContainsListed}
+use Rattle.model.specs.Verify.{NoKey, SoundEntry, Candidate, InsideRecord, Covered}
+use Rattle.model.specs.Verify.{TrueRecords, SoundEntries, CoveredSets, isFor, containsListed, isSoundEntry, isCovered}
 use Rattle.model.specs.Verify.{areTrueRecords, areSoundEntries, areCoveredSets}
 use Rattle.model.specs.declared.Entry.{Entry}
 use Rattle.model.specs.declared.Evidence.{Evidence}
@@ -127,6 +129,29 @@ for-is target right t a = (
 pub inside-is : (x y : ℕ) → T (withinOf x y) ↔ Inside x y
 inside-is x y = (λ t. within-members x y (is-true t), λ h. true-is (members-within x y h))
 
+-- a set contains a left that is listed for the two
+module _ (es : List Entry) (target right x : ℕ) where
+  abbrev below : Entry → Bool
+  below f = isFor target right (f .target) (f .right) && withinOf (f .left) x
+
+  pub contains-is : T (containsListed es target right x) ↔ ContainsListed es target right x
+  unfolding containsListed
+  contains-is = (
+    λ t.
+        let w = someIn-is below es .0 t in
+        let f = w .0 in
+        let both = and-is (isFor target right (f .target) (f .right)) (withinOf (f .left) x) .0 (w .2) in
+        (f, w .1, for-is target right (f .target) (f .right) .0 (both .0), inside-is (f .left) x .0 (both .1)),
+    λ w.
+        let f = w .0 in
+        someIn-is below es .1 (
+          f,
+          w .1,
+          and-is (isFor target right (f .target) (f .right)) (withinOf (f .left) x) .1
+              (for-is target right (f .target) (f .right) .1 (w .2), inside-is (f .left) x .1 (w .3)),
+        ),
+  )
+
 -- an entry is sound
 module _ (cat : List ℕ) (es : List Entry) (e : Entry) where
   -- another entry for its target and right, whose left it contains
@@ -164,33 +189,60 @@ module _ (cat : List ℕ) (es : List Entry) (e : Entry) where
       within : Bool
       within = withinOf (f .left) (e .left)
 
+  -- if its right is a column, its left contains no listed key
+  keyless-is : T (eqb (e .right) row || not (containsListed es (e .target) row (e .left))) ↔ NoKey es e
+  keyless-is = (
+    λ t column key. elim (or-is whole (not over) .0 t) [
+      | inl r ↦ column (eqb-is (e .right) row .0 r)
+      | inr n ↦ not-is over .0 n (contains-is es (e .target) row (e .left) .1 key)
+    ],
+    λ h. or-is whole (not over) .1 (at h (decided whole)),
+  )
+    where
+      whole : Bool
+      whole = eqb (e .right) row
+
+      over : Bool
+      over = containsListed es (e .target) row (e .left)
+
+      at : NoKey es e → T whole ⊎ (T whole → ⊥) → T whole ⊎ T (not over)
+      at h (inl r) = inl r
+      at h (inr n) =
+          inr (not-is over .1
+          (λ t. h (λ q. n (eqb-is (e .right) row .1 q)) (contains-is es (e .target) row (e .left) .0 t)))
+
   pub sound-entry-is : T (isSoundEntry cat es e) ↔ SoundEntry cat es e
   unfolding isSoundEntry
   sound-entry-is = (
     λ t.
-        let a = and-is allowed (witnessed && (stands && alone)) .0 t in
-        let w = and-is witnessed (stands && alone) .0 (a .1) in
-        let b = and-is stands alone .0 (w .1) in
+        let a = and-is allowed (witnessed && (stands && (alone && keyless))) .0 t in
+        let w = and-is witnessed (stands && (alone && keyless)) .0 (a .1) in
+        let b = and-is stands (alone && keyless) .0 (w .1) in
+        let d = and-is alone keyless .0 (b .1) in
         record {
           allowed = eqb-is (sidesCode cat (e .target) (e .left) (e .right)) 0 .0 (a .0);
           backed = backed-is (view cat (e .target)) (e .left) .0 (w .0);
           holds = holds-is (view cat (e .target)) (e .left) (e .right) .0 (b .0);
           alone = λ f m for other within.
-              not-is (someIn another es) .0 (b .1)
+              not-is (someIn another es) .0 (d .0)
               (someIn-is another es .1 (f, m, another-is f .1 (for, other, within)));
+          keyless = keyless-is .0 (d .1);
         },
     λ s.
-        and-is allowed (witnessed && (stands && alone)) .1 (
+        and-is allowed (witnessed && (stands && (alone && keyless))) .1 (
           eqb-is (sidesCode cat (e .target) (e .left) (e .right)) 0 .1 (s .allowed),
-          and-is witnessed (stands && alone) .1 (
+          and-is witnessed (stands && (alone && keyless)) .1 (
             backed-is (view cat (e .target)) (e .left) .1 (s .backed),
-            and-is stands alone .1 (
+            and-is stands (alone && keyless) .1 (
               holds-is (view cat (e .target)) (e .left) (e .right) .1 (s .holds),
-              not-is (someIn another es) .1
-                  (λ t.
-                  let w = someIn-is another es .0 t in
-                  let v = another-is (w .0) .0 (w .2) in
-                  s .alone (w .0) (w .1) (v .0) (v .1) (v .2)),
+              and-is alone keyless .1 (
+                not-is (someIn another es) .1
+                    (λ t.
+                    let w = someIn-is another es .0 t in
+                    let v = another-is (w .0) .0 (w .2) in
+                    s .alone (w .0) (w .1) (v .0) (v .1) (v .2)),
+                keyless-is .1 (s .keyless),
+              ),
             ),
           ),
         ),
@@ -207,6 +259,9 @@ module _ (cat : List ℕ) (es : List Entry) (e : Entry) where
 
       alone : Bool
       alone = not (someIn another es)
+
+      keyless : Bool
+      keyless = eqb (e .right) row || not (containsListed es (e .target) row (e .left))
 
 -- all entries are sound
 pub sound-entries-is : (cat : List ℕ) (es : List Entry) → T (areSoundEntries cat es) ↔ SoundEntries cat es
@@ -226,28 +281,8 @@ unsound-entry cat es n =
 -- a set is covered
 module _ (es : List Entry) (rs : List Evidence) where
   module _ (target right x : ℕ) where
-    abbrev below : Entry → Bool
-    below f = isFor target right (f .target) (f .right) && withinOf (f .left) x
-
     abbrev above : Evidence → Bool
     above f = isFor target right (f .target) (f .right) && withinOf x (f .set)
-
-    contains-is : T (someIn below es) ↔ ContainsListed es target right x
-    contains-is = (
-      λ t.
-          let w = someIn-is below es .0 t in
-          let f = w .0 in
-          let both = and-is (isFor target right (f .target) (f .right)) (withinOf (f .left) x) .0 (w .2) in
-          (f, w .1, for-is target right (f .target) (f .right) .0 (both .0), inside-is (f .left) x .0 (both .1)),
-      λ w.
-          let f = w .0 in
-          someIn-is below es .1 (
-            f,
-            w .1,
-            and-is (isFor target right (f .target) (f .right)) (withinOf (f .left) x) .1
-                (for-is target right (f .target) (f .right) .1 (w .2), inside-is (f .left) x .1 (w .3)),
-          ),
-    )
 
     inside-record-is : T (someIn above rs) ↔ InsideRecord rs target right x
     inside-record-is = (
@@ -269,15 +304,26 @@ module _ (es : List Entry) (rs : List Evidence) where
     pub covered-is : T (isCovered es rs target right x) ↔ Covered es rs target right x
     unfolding isCovered
     covered-is = (
-      λ t.
-          ⊎-elim (λ (b : T (someIn below es)). inl (contains-is .0 b))
-          (λ (a : T (someIn above rs)). inr (inside-record-is .0 a))
-          (or-is (someIn below es) (someIn above rs) .0 t),
-      λ c.
-          or-is (someIn below es) (someIn above rs) .1
-          (⊎-elim (λ (b : ContainsListed es target right x). inl (contains-is .1 b))
-          (λ (a : InsideRecord rs target right x). inr (inside-record-is .1 a)) c),
+      λ t. elim (or-is listed (key || inside) .0 t) [
+        | inl b ↦ inl (contains-is es target right x .0 b)
+        | inr o ↦ inr (elim (or-is key inside .0 o)
+            [ inl k ↦ inl (contains-is es target row x .0 k) | inr a ↦ inr (inside-record-is .0 a) ])
+      ],
+      λ c. or-is listed (key || inside) .1 (elim c [
+        | inl b ↦ inl (contains-is es target right x .1 b)
+        | inr (inl k) ↦ inr (or-is key inside .1 (inl (contains-is es target row x .1 k)))
+        | inr (inr a) ↦ inr (or-is key inside .1 (inr (inside-record-is .1 a)))
+      ]),
     )
+      where
+        listed : Bool
+        listed = containsListed es target right x
+
+        key : Bool
+        key = containsListed es target row x
+
+        inside : Bool
+        inside = someIn above rs
 
   -- each backed set without the right is
   module _ (cat : List ℕ) where
@@ -321,8 +367,8 @@ module _ (es : List Entry) (rs : List Evidence) where
     covered-sets-is = (
       λ t target x right c.
           let w = sides-is cat target x right .0 (c .allowed) in
-          let row = allBelow-is (tables cat) targetTest .0 t target (w .0) in
-          let one = allIn-is (rightTest target) (rightsOf (ordinary cat) target) .0 row right (w .2) in
+          let all = allBelow-is (tables cat) targetTest .0 t target (w .0) in
+          let one = allIn-is (rightTest target) (rightsOf (ordinary cat) target) .0 all right (w .2) in
           set-is target right x .0 (allBelow-is (2 ^ visible cat target) (setTest target right) .0 one x (w .1))
           (c .outside) (c .backed),
       λ h.

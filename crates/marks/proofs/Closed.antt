@@ -11,7 +11,9 @@ use lib.Pow.{pow-pos, pow-mono}
 use Rattle.columns.specs.Set.{bit}
 use Rattle.columns.proofs.Bits.{bit-complement}
 use Rattle.model.specs.View.{View, Backed}
-use Rattle.model.specs.Verify.{Inside, ContainsListed, Covered}
+use Rattle.model.specs.Bounds.{row}
+use Rattle.model.specs.Contains.{Inside, ContainsListed}
+use Rattle.model.specs.Verify.{Covered}
 use Rattle.model.specs.declared.Entry.{Entry}
 use Rattle.model.specs.declared.Evidence.{Evidence}
 use Rattle.table.specs.Words.{Above}
@@ -101,15 +103,21 @@ sets-closed rs target right m n marks plane narrow mark fill =
 
 -- what `all_covered` promises, in words, in any view whose backed sets are marked
 pub all-covered-is : (v : View) (es : List Entry) (rs : List Evidence) (target right n m a : ℕ)
-    (backed lefts sets : List ℕ) → n ≤ m → v .members ≡ n → BackedPlane v backed
-    → LeftsClosed es target right m lefts → SetsClosed rs target right m sets
-    → ((x : ℕ) → x < 2 ^ n → CoveredBy backed lefts sets m a x)
+    (backed keys lefts sets : List ℕ) → n ≤ m → v .members ≡ n → BackedPlane v backed
+    → LeftsClosed es target row m keys → LeftsClosed es target right m lefts → SetsClosed rs target right m sets
+    → ((x : ℕ) → x < 2 ^ n → CoveredBy backed keys lefts sets m a x)
     ↔ ((x : ℕ) → x < 2 ^ n → bit x a ≡ 0 → Backed v x → Covered es rs target right x)
-all-covered-is v es rs target right n m a backed lefts sets h en plane left set = (
-  λ covered x l o b. elim (covered x l o (plane x (seen x l) .1 b))
-      [ inl c ↦ inl (left .marks x (below x l) .0 c) | inr c ↦ inr (set .marks x (below x l) .0 c) ],
-  λ covered x l o b. elim (covered x l o (plane x (seen x l) .0 b))
-      [ inl w ↦ inl (left .marks x (below x l) .1 w) | inr w ↦ inr (set .marks x (below x l) .1 w) ],
+all-covered-is v es rs target right n m a backed keys lefts sets h en plane key left set = (
+  λ covered x l o b. elim (covered x l o (plane x (seen x l) .1 b)) [
+    | inl c ↦ inl (left .marks x (below x l) .0 c)
+    | inr (inl c) ↦ inr (inl (key .marks x (below x l) .0 c))
+    | inr (inr c) ↦ inr (inr (set .marks x (below x l) .0 c))
+  ],
+  λ covered x l o b. elim (covered x l o (plane x (seen x l) .0 b)) [
+    | inl w ↦ inl (left .marks x (below x l) .1 w)
+    | inr (inl w) ↦ inr (inl (key .marks x (below x l) .1 w))
+    | inr (inr w) ↦ inr (inr (set .marks x (below x l) .1 w))
+  ],
 )
   where
     seen : (x : ℕ) → x < 2 ^ n → x < 2 ^ v .members

@@ -7,7 +7,8 @@ use mathlib.Core.List.{List}
 use Rattle.model.specs.Bytes.{byteAt}
 use Rattle.model.specs.Entries.{entryAt}
 use Rattle.model.specs.Evidence.{recordAt}
-use Rattle.model.specs.Verify.{EntryFor, RecordFor}
+use Rattle.model.specs.Contains.{EntryFor}
+use Rattle.model.specs.Verify.{RecordFor}
 
 module _ (bytes : List ℕ) (at target right : ℕ) where
   abbrev pub NamesTwo : Type 0

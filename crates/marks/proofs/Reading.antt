@@ -1,4 +1,4 @@
--- Reading planes: whether a set is covered, all sets below a number, and the members of a set one by one.
+-- Reading planes: whether a set is covered, whether it contains no key, and the members of a set one by one.
 use Prim.Native.Nat.{ℕ, _-_, _<_}
 use mathlib.Core.Path.{_≡_, sym, ap, subst, _∙_}
 use mathlib.Core.Logic.{_↔_, inl, inr}
@@ -11,11 +11,13 @@ use lib.Bits.{bitAnd}
 use lib.Dec.{eqb}
 use Rattle.columns.specs.Set.{bit, withoutOf}
 use Rattle.columns.proofs.Bits.{bit-without-other}
+use Rattle.model.specs.Bounds.{row}
 use Rattle.table.specs.Words.{Above}
 use Rattle.table.proofs.Bits.{bit-none}
 use Rattle.table.proofs.Reading.{next-member, above-passed}
 use Rattle.planes.specs.Bits.{planeBit}
 use Rattle.marks.specs.Marks.{mirror, CoveredBy, Alone}
+use Rattle.marks.specs.Listed.{Keyless}
 use Rattle.marks.proofs.Closed.{not-one}
 
 -- the bit read at p, the mirror of x
@@ -24,13 +26,21 @@ pub mirror-read : (plane : List ℕ) (m x : ℕ) {p r : ℕ} → p ≡ mirror m 
 mirror-read plane m x e s = s ∙ ap (planeBit plane) e
 
 -- a set that is marked neither by its mirror nor itself is covered if it is not backed
-pub covered-unbacked : (backed lefts sets : List ℕ) (m a x : ℕ) {b : ℕ} → bit x a ≡ 0
-    → planeBit lefts (mirror m x) ≡ 0 → planeBit sets x ≡ 0 → b ≡ planeBit backed x
-    → (eqb b 0 ≡ true) ↔ CoveredBy backed lefts sets m a x
-covered-unbacked backed lefts sets m a x {b} out left set is = (
+pub covered-unbacked : (backed keys lefts sets : List ℕ) (m a x : ℕ) {b : ℕ} → bit x a ≡ 0
+    → planeBit keys (mirror m x) ≡ 0 → planeBit lefts (mirror m x) ≡ 0 → planeBit sets x ≡ 0 → b ≡ planeBit backed x
+    → (eqb b 0 ≡ true) ↔ CoveredBy backed keys lefts sets m a x
+covered-unbacked backed keys lefts sets m a x {b} out key left set is = (
   λ e o i. absurd (omega (arith, eqb-true b 0 e)),
   λ f. eq-eqb b 0 (is ∙ not-one (planeBit backed x) (omega arith)
-      (λ i. elim (f out i) [ inl c ↦ omega arith | inr c ↦ omega arith ])),
+      (λ i. elim (f out i) [ inl c ↦ omega arith | inr (inl c) ↦ omega arith | inr (inr c) ↦ omega arith ])),
+)
+
+-- a set x contains no key if its mirror is not marked, where the right is a column
+pub unmarked-keyless : (keys : List ℕ) (m right x : ℕ) {b : ℕ} → (right ≡ row → ⊥)
+    → b ≡ planeBit keys (mirror m x) → (eqb b 0 ≡ true) ↔ Keyless keys m right x
+unmarked-keyless keys m right x {b} column is = (
+  λ e i. sym is ∙ eqb-true b 0 e,
+  λ none. eq-eqb b 0 (is ∙ none column),
 )
 
 -- the members of x are passed one by one, the lowest first: with `left` still to pass, x without any other member is

@@ -1,9 +1,11 @@
--- Listed lefts and records' sets for a target and a right, on planes (document 02, b and d).
+-- Listed lefts, listed keys and records' sets for a target and a right, on planes (document 02, b, d and e).
 use Prim.Native.Nat.{ℕ, _^_, _<_}
 use mathlib.Core.Path.{_≡_}
 use mathlib.Core.Logic.{_↔_}
 use mathlib.Core.List.{List}
-use Rattle.model.specs.Verify.{EntryFor, RecordFor, ContainsListed, InsideRecord}
+use Rattle.model.specs.Bounds.{row}
+use Rattle.model.specs.Contains.{EntryFor, ContainsListed}
+use Rattle.model.specs.Verify.{RecordFor, InsideRecord}
 use Rattle.model.specs.declared.Entry.{Entry}
 use Rattle.model.specs.declared.Evidence.{Evidence}
 use Rattle.planes.specs.Bits.{planeBit}
@@ -31,8 +33,14 @@ pub record LeftsClosed (es : List Entry) (target right m : ℕ) (plane : List �
 pub record SetsClosed (rs : List Evidence) (target right m : ℕ) (plane : List ℕ) : Type 0 where
   pub marks : (x : ℕ) → x < 2 ^ m → (planeBit plane x ≡ 1) ↔ InsideRecord rs target right x
 
--- an entry, if it is for the two, is marked as backed, is not marked as broken, and contains no other
-abbrev pub SoundBy : List ℕ → List ℕ → List ℕ → ℕ → ℕ → ℕ → Entry → Type 0
-SoundBy backed broken lefts m target right e =
+-- if the right is a column, a set x is not marked, by its mirror, on the plane of the listed keys
+abbrev pub Keyless : List ℕ → ℕ → ℕ → ℕ → Type 0
+Keyless keys m right x = (right ≡ row → ⊥) → planeBit keys (mirror m x) ≡ 0
+
+-- an entry, if it is for the two, is marked as backed, is not marked as broken, contains no other, and contains no key
+-- if the right is a column
+abbrev pub SoundBy : List ℕ → List ℕ → List ℕ → List ℕ → ℕ → ℕ → ℕ → Entry → Type 0
+SoundBy backed broken keys lefts m target right e =
     EntryFor target right e
     → (planeBit backed (e .left) ≡ 1) × (planeBit broken (e .left) ≡ 0) × Alone lefts m (e .left)
+    × Keyless keys m right (e .left)

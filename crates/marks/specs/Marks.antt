@@ -18,11 +18,12 @@ pub record Wide (n m : ℕ) : Type 0 where
 abbrev pub mirror : ℕ → ℕ → ℕ
 mirror m x = 2 ^ m - 1 - x
 
--- x is covered, by a plane with the mirrors of sets and a plane with sets: if a is not in it and it is marked on the
--- plane of the backed sets, it is marked on one of the two
-abbrev pub CoveredBy : List ℕ → List ℕ → List ℕ → ℕ → ℕ → ℕ → Type 0
-CoveredBy backed lefts sets m a x =
-    bit x a ≡ 0 → planeBit backed x ≡ 1 → (planeBit lefts (mirror m x) ≡ 1) ⊎ (planeBit sets x ≡ 1)
+-- x is covered, by two planes with the mirrors of sets and a plane with sets: if a is not in it and it is marked on the
+-- plane of the backed sets, it is marked on one of the three
+abbrev pub CoveredBy : List ℕ → List ℕ → List ℕ → List ℕ → ℕ → ℕ → ℕ → Type 0
+CoveredBy backed keys lefts sets m a x =
+    bit x a ≡ 0 → planeBit backed x ≡ 1
+    → (planeBit lefts (mirror m x) ≡ 1) ⊎ ((planeBit keys (mirror m x) ≡ 1) ⊎ (planeBit sets x ≡ 1))
 
 -- x without any one of its members is not marked on a plane with the mirrors of sets
 abbrev pub Alone : List ℕ → ℕ → ℕ → Type 0

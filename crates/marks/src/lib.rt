@@ -1,9 +1,10 @@
-// Not for callers: whether sets of columns are covered for a target and a right, by planes of bits. The lefts that are
-// listed for the two are marked at their mirrors and the sets of records at themselves; then each plane is closed over
-// smaller sets, and read. Which sets are backed is read off a plane that is handed in.
+// Not for callers: whether sets of columns are covered for a target and a right, and whether the entries for the two
+// are sound, by planes of bits. The lefts that are listed for the two are marked at their mirrors, on another plane the
+// listed keys of the target, and the sets of records at themselves; then each plane is closed over smaller sets, and
+// read. Which sets are backed is read off a plane that is handed in.
 // Relies on the definitions of `model` and `columns`, on `entries` and `evidence` for entries and records in bytes, and
 // on `planes` for the closing. Called by `soundness` and `coverage`.
-ghost use Prim.Native.Nat.{ℕ, _+_, _*_, _/_, _^_, _≤_, _<_};
+ghost use Prim.Native.Nat.{ℕ, _+_, _*_, _^_, _≤_, _<_};
 ghost use mathlib.Core.Path.{_≡_};
 ghost use mathlib.Core.Bool.{true};
 ghost use mathlib.Core.Logic.{_↔_};
@@ -15,13 +16,15 @@ ghost use Rattle.model.specs.Evidence.{evidenceBytes, recordAt, recordsFrom};
 ghost use Rattle.planes.specs.Marks.{RoomFor, Marked};
 ghost use Rattle.evidence.specs.Lists.{Some, Each};
 ghost use Rattle.marks.specs.Marks.{Wide, mirror, CoveredBy, Alone};
-ghost use Rattle.marks.specs.Listed.{NarrowLeft, NarrowSet, LeftAt, SetAt, LeftsClosed, SetsClosed, SoundBy};
+ghost use Rattle.marks.specs.Listed.{NarrowLeft, NarrowSet, LeftAt, SetAt, LeftsClosed, SetsClosed};
+ghost use Rattle.marks.specs.Listed.{Keyless, SoundBy};
 use bits::power;
 use entries::entry_from;
 use evidence::record_at;
 use file::byte_at;
 use model::ENTRY_BYTES;
 use model::EVIDENCE_BYTES;
+use model::ROW;
 use planes::PLANE;
 use planes::bit_at;
 use planes::mark;
@@ -157,17 +160,30 @@ pub fn close_sets(bytes: &[u8], count: usize, target: u32, right: u32, m: u32, p
     planes::fill(&marks, m, m, plane);
 }
 
-// Is the set x covered, if a is not in it and it is backed? Most sets are backed and covered, so whether it is backed
-// is asked last.
-fn is_covered(backed: &[u32], lefts: &[u32], sets: &[u32], m: u32, a: u32, x: u32) -> bool
-    requires { ⌜ RoomFor m (now backed) × RoomFor m (now lefts) × RoomFor m (now sets) × (a ≤ m) × (x < 2 ^ m) ⌝ }
+// Is the set x covered, if a is not in it and it is backed? Most sets of a wide table contain a key, so this is asked
+// first; and most are backed and covered, so whether it is backed is asked last.
+fn is_covered(
+    backed: &[u32],
+    keys: &[u32],
+    lefts: &[u32],
+    sets: &[u32],
+    m: u32,
+    a: u32,
+    x: u32,
+) -> bool
+    requires { ⌜ RoomFor m (now backed) × RoomFor m (now keys) × RoomFor m (now lefts) × RoomFor m (now sets)
+        × (a ≤ m) × (x < 2 ^ m) ⌝ }
     ensures { λ r. ⌜ (r ≡ true)
-        ↔ CoveredBy (now (backed .entry)) (now (lefts .entry)) (now (sets .entry)) m a x ⌝ }
+        ↔ CoveredBy (now (backed .entry)) (now (keys .entry)) (now (lefts .entry)) (now (sets .entry)) m a x ⌝ }
 {
     if (x >> a) % 2 != 0 {
         return true;
     }
-    if bit_at(lefts, mirror(m, x)) != 0 {
+    let place = mirror(m, x);
+    if bit_at(keys, place) != 0 {
+        return true;
+    }
+    if bit_at(lefts, place) != 0 {
         return true;
     }
     if bit_at(sets, x) != 0 {
@@ -177,16 +193,25 @@ fn is_covered(backed: &[u32], lefts: &[u32], sets: &[u32], m: u32, a: u32, x: u3
 }
 
 // Are all backed sets of n columns covered that a is not in?
-pub fn all_covered(backed: &[u32], lefts: &[u32], sets: &[u32], n: u32, m: u32, a: u32) -> bool
-    requires { ⌜ RoomFor m (now backed) × RoomFor m (now lefts) × RoomFor m (now sets) × (n ≤ m) × (a ≤ m) ⌝ }
+pub fn all_covered(
+    backed: &[u32],
+    keys: &[u32],
+    lefts: &[u32],
+    sets: &[u32],
+    n: u32,
+    m: u32,
+    a: u32,
+) -> bool
+    requires { ⌜ RoomFor m (now backed) × RoomFor m (now keys) × RoomFor m (now lefts) × RoomFor m (now sets)
+        × (n ≤ m) × (a ≤ m) ⌝ }
     ensures { λ r. ⌜ (r ≡ true)
         ↔ ((x : ℕ) → x < 2 ^ n
-        → CoveredBy (now (backed .entry)) (now (lefts .entry)) (now (sets .entry)) m a x) ⌝ }
+        → CoveredBy (now (backed .entry)) (now (keys .entry)) (now (lefts .entry)) (now (sets .entry)) m a x) ⌝ }
 {
     let end = power(n);
     let mut x = 0;
     while x < end {
-        if !is_covered(backed, lefts, sets, m, a, x) {
+        if !is_covered(backed, keys, lefts, sets, m, a, x) {
             return false;
         }
         x += 1;
@@ -212,7 +237,19 @@ fn is_alone(lefts: &[u32], m: u32, x: u32) -> bool
     true
 }
 
-// If the entry at a position is for the two, is it backed and not broken, and does it contain no other?
+// Does x contain no listed key, if the right is a column?
+fn is_keyless(keys: &[u32], m: u32, right: u32, x: u32) -> bool
+    requires { ⌜ RoomFor m (now keys) × (x < 2 ^ m) ⌝ }
+    ensures { λ r. ⌜ (r ≡ true) ↔ Keyless (now (keys .entry)) m right x ⌝ }
+{
+    if right == ROW {
+        return true;
+    }
+    bit_at(keys, mirror(m, x)) == 0
+}
+
+// If the entry at a position is for the two, is it backed and not broken, and does it contain no other, nor a key if
+// the right is a column?
 fn is_sound(
     list: &[u8],
     at: usize,
@@ -220,13 +257,14 @@ fn is_sound(
     right: u32,
     backed: &[u32],
     broken: &[u32],
+    keys: &[u32],
     lefts: &[u32],
     m: u32,
 ) -> bool
-    requires { ⌜ RoomFor m (now backed) × RoomFor m (now broken) × RoomFor m (now lefts)
+    requires { ⌜ RoomFor m (now backed) × RoomFor m (now broken) × RoomFor m (now keys) × RoomFor m (now lefts)
         × NarrowLeft m target right (entryAt (now list) at) × (at + entryBytes ≤ length (now list)) ⌝ }
     ensures { λ r. ⌜ (r ≡ true)
-        ↔ SoundBy (now (backed .entry)) (now (broken .entry)) (now (lefts .entry)) m target right
+        ↔ SoundBy (now (backed .entry)) (now (broken .entry)) (now (keys .entry)) (now (lefts .entry)) m target right
         (entryAt (now (list .entry)) at) ⌝ }
 {
     if !is_for(list, at, target, right) {
@@ -240,10 +278,14 @@ fn is_sound(
     if bit_at(broken, left) != 0 {
         return false;
     }
+    if !is_keyless(keys, m, right, left) {
+        return false;
+    }
     is_alone(lefts, m, left)
 }
 
-// Is each entry from a position on that is for the two backed and not broken, and does none of them contain another?
+// Is each entry from a position on that is for the two backed and not broken, and does none of them contain another,
+// nor a key if the right is a column?
 pub fn entries_sound(
     list: &[u8],
     count: u32,
@@ -252,20 +294,21 @@ pub fn entries_sound(
     right: u32,
     backed: &[u32],
     broken: &[u32],
+    keys: &[u32],
     lefts: &[u32],
     m: u32,
 ) -> bool
-    requires { ⌜ RoomFor m (now backed) × RoomFor m (now broken) × RoomFor m (now lefts)
+    requires { ⌜ RoomFor m (now backed) × RoomFor m (now broken) × RoomFor m (now keys) × RoomFor m (now lefts)
         × (first + entryBytes * count ≤ length (now list))
         × Each (NarrowLeft m target right) (entriesFrom (now list) count first) ⌝ }
     ensures { λ r. ⌜ (r ≡ true)
-        ↔ Each (SoundBy (now (backed .entry)) (now (broken .entry)) (now (lefts .entry)) m target right)
-        (entriesFrom (now (list .entry)) count first) ⌝ }
+        ↔ Each (SoundBy (now (backed .entry)) (now (broken .entry)) (now (keys .entry)) (now (lefts .entry)) m target
+        right) (entriesFrom (now (list .entry)) count first) ⌝ }
 {
     let mut at = first;
     let mut rest = count;
     while 0 < rest {
-        if !is_sound(list, at, target, right, backed, broken, lefts, m) {
+        if !is_sound(list, at, target, right, backed, broken, keys, lefts, m) {
             return false;
         }
         at += ENTRY_BYTES;

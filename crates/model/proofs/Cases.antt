@@ -26,7 +26,7 @@ use Rattle.model.specs.Listing.{ordinary, cells}
 use Rattle.model.specs.Calls.{flat, passed, written, placeCode, roomCode, callCode, runAfter, Seen, Obeys}
 use Rattle.model.specs.List.{ListMeaning, listCode}
 use Rattle.model.specs.Album.{album, noRows, oneMissing, bothMissing, equalRows, twoGroups}
-use Rattle.model.specs.Album.{parted, lostAbove}
+use Rattle.model.specs.Album.{parted, lostAbove, twoKeys, twins}
 use Rattle.model.specs.Cases.{Cases}
 use Rattle.model.specs.declared.Entry.{Entry}
 use Rattle.model.proofs.Grounds.{orElse-none}
@@ -39,7 +39,7 @@ use Rattle.model.proofs.Line.{line, fork, depth}
 use Rattle.model.proofs.Replies.{question-replies, list-replies, packed-replies, text-replies}
 use Rattle.model.proofs.Values.{bound-values, byte-order, refusal-numbers, answer-values}
 use Rattle.model.proofs.Text.{album-text}
-use Rattle.model.proofs.View.{holds-true, holds-false, breaks-is}
+use Rattle.model.proofs.View.{holds-true, holds-false, breaks-is, minimal-is}
 use Rattle.model.proofs.Backed.{backed-true, backed-false}
 use Rattle.model.proofs.Pair.{firstPair-is}
 
@@ -158,6 +158,18 @@ unlisted6 : List·Memᴰ (entry 0 0 row) (flat (cells (ordinary noRows))) → �
 unfolding computes
 unlisted6 = none-listed noRows (entry 0 0 row) refl
 
+-- the key alone is listed
+listing7 : flat (cells (ordinary oneMissing)) ≡ entry 0 0 row ∷ []
+unfolding computes
+listing7 = refl
+
+unlisted7 : List·Memᴰ (entry 0 0 0) (flat (cells (ordinary oneMissing))) → ⊥
+unlisted7 m = at (List·Memᴰ·cases-cons (subst (λ (es : List Entry). List·Memᴰ (entry 0 0 0) es) listing7 m))
+  where
+    at : (entry 0 0 0 ≡ entry 0 0 row) ⊎ List·Memᴰ (entry 0 0 0) [] → ⊥
+    at (inl e) = let z : _≡_ {A = ℕ} 0 row = ap (λ (f : Entry). f .right) e in omega arith
+    at (inr n) = List·Memᴰ·not-nil n
+
 unlisted8 : List·Memᴰ (entry 0 1 row) (flat (cells (ordinary bothMissing))) → ⊥
 unfolding computes
 unlisted8 = none-listed bothMissing (entry 0 1 row) refl
@@ -209,14 +221,14 @@ cases =
       k4 = holds-false (view album 0) 0 0 test4;
       k5 = (holds-true (view album 0) 1 0 test5, unlisted5);
       k6 = (holds-true (view noRows 0) 0 row test6, unlisted6);
-      k7 = holds-true (view oneMissing 0) 0 0 test7;
+      k7 = (holds-true (view oneMissing 0) 0 0 test7, unlisted7);
       k8 = (holds-true (view bothMissing 0) 1 row test8, unlisted8);
       k9 = none9;
       k10 = (order10, lefts10);
       k11 = last11;
       noRowsUnbacked = backed-false (view noRows 0) 0 refl;
       emptyBacked = backed-true (view oneMissing 0) 0 refl;
-      oneMissingListing = refl;
+      oneMissingListing = listing7;
       firstBacked = backed-true (view parted 0) 1 refl;
       secondBacked = backed-true (view parted 0) 2 refl;
       bothUnbacked = backed-false (view parted 0) 3 refl;
@@ -225,6 +237,13 @@ cases =
       ownBacked = backed-true (view lostAbove 1) 2 refl;
       aboveUnbacked = backed-false (view lostAbove 1) 1 refl;
       lostAboveListing = refl;
+      keyOfOne = holds-true (view twoKeys 0) 1 row refl;
+      keyOfTwo = holds-true (view twoKeys 0) 6 row refl;
+      givenByOne = (minimal-is (view twoKeys 0) 1 1 .0 tt, minimal-is (view twoKeys 0) 1 2 .0 tt);
+      givenByTwo = minimal-is (view twoKeys 0) 6 0 .0 tt;
+      twoKeysListing = refl;
+      largerKey = (holds-true (view album 1) 3 row refl, holds-false (view album 1) 1 row refl);
+      twinsListing = refl;
       firstOfGroups = firstPair-is (view twoGroups 0) 1 1 0 4 .0 refl;
       laterSecond = breaks-is (view twoGroups 0) 1 1 0 5 .0 tt;
       lowerSecond = breaks-is (view twoGroups 0) 1 1 1 2 .0 tt;
@@ -242,6 +261,8 @@ cases =
       twoGroupsAccepted = refl;
       partedAccepted = refl;
       lostAboveAccepted = refl;
+      twoKeysAccepted = refl;
+      twinsAccepted = refl;
       line = line;
       fork = fork;
       depth = depth;

@@ -21,7 +21,7 @@ use Rattle.model.specs.Rights.{rightAt, rightsFrom, rightsIn}
 use Rattle.model.specs.Encode.{headOf, codesOf, rowOf, trailerOf}
 use Rattle.model.specs.Encode.{rowsBytes, tableBytes, tablesBytes, startsFrom, encode}
 use Rattle.model.specs.Album.{album, noRows, oneMissing, bothMissing, equalRows, twoGroups, keyBelow}
-use Rattle.model.specs.Album.{parted, lostAbove}
+use Rattle.model.specs.Album.{parted, lostAbove, twoKeys, twins}
 use Rattle.model.specs.Damaged.{groundsFrom, notZero, grounds, cut, noTable, children, offsetsFrom, manyTables}
 use Rattle.model.specs.Damaged.{longTrailer, lateTable, shortHead, shortRow, leftByte, manyColumns, rowsOnly}
 use Rattle.model.specs.Damaged.{manyRows, rootedRoot, ownParent, tooWide, rootedRow, unknownParentRow, smallest}
@@ -42,10 +42,11 @@ use Rattle.model.specs.Reading.{entriesRead, frontRead, readFrom, readMe
 use Rattle.model.specs.RefusedCalls.{emptyList, lostEntry}
 use Rattle.model.specs.Evidence.{recordBytes, recordAt, recordsBytes, recordsFrom, recordCount, recordsHeld}
 use Rattle.model.specs.Evidence.{unbroken, isTrueRecord, allIn, someIn}
-use Rattle.model.specs.Verify.{isFor, isSoundEntry, isCovered, areTrueRecords, areSoundEntries}
+use Rattle.model.specs.Verify.{isFor, containsListed, isSoundEntry, isCovered, areTrueRecords, areSoundEntries}
 use Rattle.model.specs.Verify.{areCoveredSets, recordsCode, soundCode, coverCode, evidenceCode, verifyCode}
 use Rattle.model.specs.Verify.{verifyMeaning}
 use Rattle.model.specs.Supplied.{albumList, albumRecords, albumEvidence, keyEvidence, bothEvidence, lostList}
+use Rattle.model.specs.Supplied.{keysEvidence, twinsEvidence}
 use Rattle.model.specs.Text.{answerText, listingText, headLine, refusedLine, linesOf, entryLine, entryText}
 use Rattle.model.specs.Text.{rightText, decimal, decimalIn}
 
@@ -57,16 +58,16 @@ unfolding ones onesIn ifEq ifLt ifLe withoutOf inOrder bySizeFrom ofSize ofSizeF
     firstFrom firstRow secondRow firstPair owner ownerIn ancestor ancestorIn cellsAgree agreeAt presentAt listed rightAt
     rightsFrom rightsIn rightsOf cells cellsFrom cellsOf entriesOf headOf codesOf rowOf trailerOf rowsBytes tableBytes
     tablesBytes startsFrom encode album noRows oneMissing bothMissing equalRows twoGroups keyBelow parted lostAbove
-    groundsFrom notZero grounds cut noTable children offsetsFrom manyTables longTrailer lateTable shortHead shortRow
-    leftByte manyColumns rowsOnly manyRows rootedRoot ownParent tooWide rootedRow unknownParentRow smallest mostColumns
-    mostRows widest lateAndLarge largeAndRooted ownParentAndWide wideAndLong longAndRooted rowThenTable rowThenByte
-    inLine forked below offsetsBy12 deepest memberOf targetCode leftSideCode rightSideCode sidesCode wordsCode
-    questionCode askMeaning pairMeaning passed written placeCode roomCode callCode runAfter workAfter firstCode earlier
-    tailCode bytesOf entryAt countIn distanceIn entriesBytes packed entriesFrom entriesHeld frontOf entryCode laterCode
-    restCode entriesCode outputCode packCode packMeaning outputAfter readCode openMeaning entriesRead frontRead readFrom
-    readMeaning runRead readAt emptyList lostEntry recordBytes recordAt recordsBytes recordsFrom recordCount recordsHeld
-    unbroken isTrueRecord allIn someIn isFor isSoundEntry isCovered areTrueRecords areSoundEntries areCoveredSets
-    recordsCode soundCode coverCode evidenceCode verifyCode verifyMeaning withinOf albumList albumRecords albumEvidence
-    keyEvidence bothEvidence lostList answerText listingText headLine refusedLine linesOf entryLine entryText rightText
-    decimal decimalIn
+    twoKeys twins groundsFrom notZero grounds cut noTable children offsetsFrom manyTables longTrailer lateTable
+    shortHead shortRow leftByte manyColumns rowsOnly manyRows rootedRoot ownParent tooWide rootedRow unknownParentRow
+    smallest mostColumns mostRows widest lateAndLarge largeAndRooted ownParentAndWide wideAndLong longAndRooted
+    rowThenTable rowThenByte inLine forked below offsetsBy12 deepest memberOf targetCode leftSideCode rightSideCode
+    sidesCode wordsCode questionCode askMeaning pairMeaning passed written placeCode roomCode callCode runAfter
+    workAfter firstCode earlier tailCode bytesOf entryAt countIn distanceIn entriesBytes packed entriesFrom entriesHeld
+    frontOf entryCode laterCode restCode entriesCode outputCode packCode packMeaning outputAfter readCode openMeaning
+    entriesRead frontRead readFrom readMeaning runRead readAt emptyList lostEntry recordBytes recordAt recordsBytes
+    recordsFrom recordCount recordsHeld unbroken isTrueRecord allIn someIn isFor containsListed isSoundEntry isCovered
+    areTrueRecords areSoundEntries areCoveredSets recordsCode soundCode coverCode evidenceCode verifyCode verifyMeaning
+    withinOf albumList albumRecords albumEvidence keyEvidence bothEvidence lostList keysEvidence twinsEvidence
+    answerText listingText headLine refusedLine linesOf entryLine entryText rightText decimal decimalIn
 computes = tt

@@ -4,6 +4,7 @@ pub mod First
 pub mod View
 pub mod Backed
 pub mod Pair
+pub mod Minimal
 pub mod Listed
 pub mod Target
 pub mod Check
@@ -18,6 +19,7 @@ pub mod Rightly
 pub mod Demand
 pub mod Obedient
 pub mod Listing
+pub mod Contains
 pub mod Complete
 pub mod Short
 pub mod Computes

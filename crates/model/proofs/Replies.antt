@@ -14,7 +14,7 @@ use Rattle.model.specs.Listing.{ordinary, cells}
 use Rattle.model.specs.Calls.{placeCode, roomCode, callCode, Seen, Obeys}
 use Rattle.model.specs.List.{ListMeaning}
 use Rattle.model.specs.Text.{tooLong, refusedLine, listingText, answerText}
-use Rattle.model.specs.Album.{album}
+use Rattle.model.specs.Album.{album, twins}
 use Rattle.model.specs.Line.{inLine}
 use Rattle.model.specs.Replies.{QuestionReplies, ListReplies, PackedReplies, TextReplies}
 use Rattle.model.specs.declared.Entry.{Entry}
@@ -75,8 +75,9 @@ list-replies =
       goneOn = λ work w. enough album _ refl w (record { reply = refl; run = refl; work = refl });
       budget0 = λ work w. enough album _ refl w (record { reply = refl; run = refl; work = refl });
       noRecord = λ work w. enough album _ refl w (record { reply = refl; run = refl; work = refl });
-      refused13 = λ work w. enough inLine _ refl w (record { reply = refl; run = refl; work = refl });
-      twoAtOnce = λ work w. enough inLine _ refl w (record { reply = refl; run = refl; work = refl });
+      refused13 = λ work w. enough twins _ refl w (record { reply = refl; run = refl; work = refl });
+      twoAtOnce = λ work w. enough twins _ refl w (record { reply = refl; run = refl; work = refl });
+      keyAlone = λ work w. enough inLine _ refl w (record { reply = refl; run = refl; work = refl });
       unbacked = λ work w. enough inLine _ refl w (record { reply = refl; run = refl; work = refl });
       refused12 = λ work w. enough album _ refl w (record { reply = refl; run = refl; work = refl });
       refused11 = record { reply = refl; run = refl; work = refl };

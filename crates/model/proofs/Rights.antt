@@ -226,3 +226,10 @@ ordinary-bounded cat ok =
       targets = accepted-tables cat ok;
       members = λ target h. accepted-visible cat ok target h;
     }
+
+-- the row is a right of every target, and so of every table
+abbrev pub RowRight : Listing → Type 0
+RowRight l = (target : ℕ) → target < l .targets → List·Memᴰ row (rightsOf l target)
+
+pub ordinary-row : (cat : List ℕ) → RowRight (ordinary cat)
+ordinary-row cat target known = right-is cat target row .1 (inr refl)

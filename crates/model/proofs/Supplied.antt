@@ -21,6 +21,8 @@ supplied =
       backedOnly = refl;
       unbackedRecord = refl;
       keyOfRoot = refl;
+      keysCover = refl;
+      noKeys = refl;
       byteLess = refl;
       byteMore = record { code = refl; alone = refl };
       unknownTable = record { code = refl; alone = refl };
@@ -45,9 +47,13 @@ supplied =
       noRowsEntry = refl;
       unbackedEntry = record { code = refl; alone = refl };
       containsKey = record { code = refl; alone = refl };
+      givenByKey = record { code = refl; alone = refl };
+      givenByLast = record { code = refl; alone = refl };
+      aboveKey = record { code = refl; alone = refl };
       entryMissing = record { code = refl; alone = refl };
       keyMissing = record { code = refl; alone = refl };
       larger = record { code = refl; alone = refl };
+      columnsForKey = record { code = refl; alone = refl };
       noEntry = record { code = refl; alone = refl };
       noRecord = record { code = refl; alone = refl };
       recordMissing = record { code = refl; alone = refl };

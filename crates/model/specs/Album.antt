@@ -1,5 +1,5 @@
 -- The album catalogue of document 01, the small catalogues of its cases K6 to K9, one for the first breaking pair, two
--- for left sides that are not backed and one for lists with evidence, as bytes.
+-- for left sides that are not backed, two for keys and what they give, and one for lists with evidence, as bytes.
 use Prim.Native.Nat.{ℕ}
 use mathlib.Core.List.{List, [], _∷_, _++_}
 use Rattle.model.specs.Bounds.{noParent, missing}
@@ -67,6 +67,18 @@ lostAbove =
     (content 1 noParent ((noParent, missing ∷ []) ∷ [])
     ∷ content 1 0 ((0, 7 ∷ []) ∷ (0, 7 ∷ []) ∷ [])
     ∷ [])
+
+-- three columns and three rows: {0} is a key, and so is {1, 2}; {1} and {2} give nothing
+unfoldable pub twoKeys : List ℕ
+twoKeys =
+    encode
+    (content 3 noParent
+    ((noParent, 1 ∷ 1 ∷ 1 ∷ []) ∷ (noParent, 2 ∷ 1 ∷ 2 ∷ []) ∷ (noParent, 3 ∷ 2 ∷ 1 ∷ []) ∷ [])
+    ∷ [])
+
+-- two columns and two equal rows: the empty set gives both columns, and there is no key
+unfoldable pub twins : List ℕ
+twins = encode (content 2 noParent ((noParent, 1 ∷ 2 ∷ []) ∷ (noParent, 1 ∷ 2 ∷ []) ∷ []) ∷ [])
 
 -- two columns and six rows: {0} does not give 1 among the rows 0, 4 and 5, nor among the rows 1 and 2
 unfoldable pub twoGroups : List ℕ

@@ -10,7 +10,7 @@ use Rattle.model.specs.Bounds.{workBound, row}
 use Rattle.model.specs.Reply.{refused, answered}
 use Rattle.model.specs.Catalogue.{visible}
 use Rattle.model.specs.Check.{Accepted, checkMeaning}
-use Rattle.model.specs.View.{Holds, Key, Breaks, Backed}
+use Rattle.model.specs.View.{Holds, Key, Breaks, Minimal, Backed}
 use Rattle.model.specs.Pair.{FirstPair}
 use Rattle.model.specs.Target.{view}
 use Rattle.model.specs.Entry.{entry}
@@ -19,7 +19,7 @@ use Rattle.model.specs.Calls.{flat, Seen}
 use Rattle.model.specs.List.{ListMeaning}
 use Rattle.model.specs.Text.{answerText}
 use Rattle.model.specs.Album.{album, albumLines, noRows, oneMissing, bothMissing, equalRows, twoGroups}
-use Rattle.model.specs.Album.{parted, lostAbove}
+use Rattle.model.specs.Album.{parted, lostAbove, twoKeys, twins}
 use Rattle.model.specs.Damaged.{tooWide, Damages, AtTheBounds, DamageOrder}
 use Rattle.model.specs.RefusedCalls.{RefusedQuestions, RefusedListings, RefusedLists}
 use Rattle.model.specs.Supplied.{Supplied}
@@ -41,8 +41,8 @@ pub record Cases : Type 0 where
   pub k5 : Holds (view album 0) 1 0 × (List·Memᴰ (entry 0 1 0) (flat (cells (ordinary album))) → ⊥)
   -- K6 no rows: the empty set gives the row, unlisted (document 02, d)
   pub k6 : Key (view noRows 0) 0 × (List·Memᴰ (entry 0 0 row) (flat (cells (ordinary noRows))) → ⊥)
-  -- K7 one row with a missing cell: the empty set gives its column
-  pub k7 : Holds (view oneMissing 0) 0 0
+  -- K7 one row with a missing cell: the empty set gives its column, unlisted, since it is a key (document 02, e)
+  pub k7 : Holds (view oneMissing 0) 0 0 × (List·Memᴰ (entry 0 0 0) (flat (cells (ordinary oneMissing))) → ⊥)
   -- K8 two rows, both cells missing: {0} gives the row, unlisted (document 02, d)
   pub k8 : Key (view bothMissing 0) 1 × (List·Memᴰ (entry 0 1 row) (flat (cells (ordinary bothMissing))) → ⊥)
   -- K9 two equal rows under one parent, all cells present: no key
@@ -52,11 +52,11 @@ pub record Cases : Type 0 where
   -- K11 place 10 returns 10 and no entry: whatever the budget and the run, with words enough
   pub k11 : (s : Seen Entry) → s .place ≡ 10 → workBound ≤ length (s .work) → ListMeaning album s
       → (s .reply ≡ answered (10 ∷ 0 ∷ 0 ∷ [])) × (s .runThen ≡ s .run)
-  -- backed left sides (document 02, d): without rows not even the empty one; of one row it is, and what it gives is
+  -- backed left sides (document 02, d): without rows not even the empty one; of one row it is, and its key is
   -- listed; {0} and {1} by different rows, and {0, 1} by none, though it is a key; below a missing cell {1} and not {0}
   pub noRowsUnbacked : Backed (view noRows 0) 0 → ⊥
   pub emptyBacked : Backed (view oneMissing 0) 0
-  pub oneMissingListing : flat (cells (ordinary oneMissing)) ≡ entry 0 0 0 ∷ entry 0 0 row ∷ []
+  pub oneMissingListing : flat (cells (ordinary oneMissing)) ≡ entry 0 0 row ∷ []
   pub firstBacked : Backed (view parted 0) 1
   pub secondBacked : Backed (view parted 0) 2
   pub bothUnbacked : Backed (view parted 0) 3 → ⊥
@@ -64,7 +64,17 @@ pub record Cases : Type 0 where
   pub partedListing : flat (cells (ordinary parted)) ≡ []
   pub ownBacked : Backed (view lostAbove 1) 2
   pub aboveUnbacked : Backed (view lostAbove 1) 1 → ⊥
-  pub lostAboveListing : flat (cells (ordinary lostAbove)) ≡ entry 0 0 0 ∷ entry 0 0 row ∷ entry 1 0 1 ∷ []
+  pub lostAboveListing : flat (cells (ordinary lostAbove)) ≡ entry 0 0 row ∷ entry 1 0 1 ∷ []
+  -- a key stands for what it gives (document 02, e): {0} and {1, 2} are keys, and what they give is minimal and not
+  -- listed; {0} gives 2 in the album's table 1 and is no key, so it is listed, though {0, 1} is a key; and where there
+  -- is no key, all that is minimal is listed
+  pub keyOfOne : Key (view twoKeys 0) 1
+  pub keyOfTwo : Key (view twoKeys 0) 6
+  pub givenByOne : Minimal (view twoKeys 0) 1 1 × Minimal (view twoKeys 0) 1 2
+  pub givenByTwo : Minimal (view twoKeys 0) 6 0
+  pub twoKeysListing : flat (cells (ordinary twoKeys)) ≡ entry 0 1 row ∷ entry 0 6 row ∷ []
+  pub largerKey : Key (view album 1) 3 × (Key (view album 1) 1 → ⊥)
+  pub twinsListing : flat (cells (ordinary twins)) ≡ entry 0 0 0 ∷ entry 0 0 1 ∷ []
   -- of four breaking pairs the first: the lowest first row, then the lowest second row
   pub firstOfGroups : FirstPair (view twoGroups 0) 1 1 0 4
   pub laterSecond : Breaks (view twoGroups 0) 1 1 0 5
@@ -86,6 +96,8 @@ pub record Cases : Type 0 where
   pub twoGroupsAccepted : Accepted twoGroups
   pub partedAccepted : Accepted parted
   pub lostAboveAccepted : Accepted lostAbove
+  pub twoKeysAccepted : Accepted twoKeys
+  pub twinsAccepted : Accepted twins
   -- specs/Line.antt: four tables in a line, two tables under one parent, sixteen tables in a line
   pub line : Line
   pub fork : Fork

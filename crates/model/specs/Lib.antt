@@ -14,6 +14,7 @@ pub mod Question
 pub mod Entry
 pub mod Listing
 pub mod Calls
+pub mod Contains
 pub mod Demand
 pub mod List
 pub mod Entries

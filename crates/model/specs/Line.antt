@@ -87,11 +87,12 @@ pub record Line : Type 0 where
   pub present0 : map (presentAt inLine 3 0) (0 ∷ 1 ∷ 2 ∷ 3 ∷ []) ≡ false ∷ false ∷ false ∷ false ∷ []
   pub present1 : map (presentAt inLine 3 1) (0 ∷ 1 ∷ 2 ∷ 3 ∷ []) ≡ true ∷ true ∷ true ∷ true ∷ []
   pub present2 : map (presentAt inLine 3 2) (0 ∷ 1 ∷ 2 ∷ 3 ∷ []) ≡ true ∷ false ∷ true ∷ false ∷ []
-  -- no row below the root reaches the root row whose cell is present: {0} backs nothing there, and in the root it does
+  -- no row below the root reaches the root row whose cell is present: {0} backs nothing there, and in the root it does;
+  -- {1, 2} gives 3 in table 3 and is no key, {2, 4} gives it too and is one
   pub listing : flat (cells (ordinary inLine))
       ≡ entry 0 1 row
       ∷ entry 2 6 row
-      ∷ entry 3 6 3 ∷ entry 3 20 3 ∷ entry 3 20 row ∷ entry 3 24 row
+      ∷ entry 3 6 3 ∷ entry 3 20 row ∷ entry 3 24 row
       ∷ []
 
 -- two tables under the root, and one under the first of them: the parents of tables 2 and 3 are not the tables before
@@ -128,7 +129,7 @@ pub record Fork : Type 0 where
       ≡ entry 0 1 row
       ∷ entry 1 0 1 ∷ entry 1 4 row
       ∷ entry 2 0 1 ∷ entry 2 1 row
-      ∷ entry 3 4 3 ∷ entry 3 4 row ∷ entry 3 8 row
+      ∷ entry 3 4 row ∷ entry 3 8 row
       ∷ []
 
 -- 16 tables in a line, each with one column: two root rows, and one row in each other table, which leads to the

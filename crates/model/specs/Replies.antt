@@ -14,7 +14,7 @@ use Rattle.model.specs.List.{ListMeaning}
 use Rattle.model.specs.Packing.{packed, packMeaning, outputAfter}
 use Rattle.model.specs.Reading.{openMeaning, entriesRead, frontRead, readMeaning, runRead, readAt}
 use Rattle.model.specs.Text.{decimal, entryLine, refusedLine, answerText}
-use Rattle.model.specs.Album.{album, noRows, oneMissing, twoGroups}
+use Rattle.model.specs.Album.{album, noRows, oneMissing, twins, twoGroups}
 use Rattle.model.specs.Damaged.{cut, tooWide}
 use Rattle.model.specs.Line.{inLine}
 use Rattle.model.specs.RefusedCalls.{lostEntry}
@@ -77,10 +77,12 @@ pub record ListReplies : Type 0 where
   pub goneOn : ListZeroes album 6 10 (blank ∷ []) (answered (8 ∷ 2 ∷ 1 ∷ [])) (entry 1 3 row ∷ [])
   pub budget0 : ListZeroes album 3 0 (blank ∷ []) (answered (3 ∷ 0 ∷ 0 ∷ [])) (blank ∷ [])
   pub noRecord : ListZeroes album 0 10 [] (answered (3 ∷ 3 ∷ 0 ∷ [])) []
-  -- 13: four tables in a line have two entries at place 28; the run is untouched, and the work words are 0
-  pub refused13 : ListZeroes inLine 28 1 (blank ∷ []) (refused 13) (blank ∷ [])
-  pub twoAtOnce : ListZeroes inLine 28 1 (blank ∷ blank ∷ []) (answered (29 ∷ 1 ∷ 2 ∷ []))
-      (entry 3 20 3 ∷ entry 3 20 row ∷ [])
+  -- 13: two equal rows have two entries at place 0; the run is untouched, and the work words are 0
+  pub refused13 : ListZeroes twins 0 1 (blank ∷ []) (refused 13) (blank ∷ [])
+  pub twoAtOnce : ListZeroes twins 0 1 (blank ∷ blank ∷ []) (answered (1 ∷ 1 ∷ 2 ∷ []))
+      (entry 0 0 0 ∷ entry 0 0 1 ∷ [])
+  -- a set that is a key has one entry, whatever columns it gives: {2, 4} at place 28 of four tables in a line gives 3
+  pub keyAlone : ListZeroes inLine 28 1 (blank ∷ []) (answered (29 ∷ 1 ∷ 1 ∷ [])) (entry 3 20 row ∷ [])
   -- a set whose left side is not backed has its place and no entries
   pub unbacked : ListZeroes inLine 10 1 [] (answered (11 ∷ 1 ∷ 0 ∷ [])) []
   -- 12, 11 and a refused catalogue: nothing lent is altered
@@ -155,12 +157,11 @@ pub record TextReplies : Type 0 where
       ∷ 115 ∷ 101 ∷ 116 ∷ 115 ∷ 32 ∷ 50 ∷ 32
       ∷ 101 ∷ 110 ∷ 116 ∷ 114 ∷ 105 ∷ 101 ∷ 115 ∷ 32 ∷ 48 ∷ 10
       ∷ []
-  -- `tables 1 sets 2 entries 2`, `0 0 0`, `0 0 row`: one row, whose cell is missing
+  -- `tables 1 sets 2 entries 1`, `0 0 row`: one row, whose cell is missing
   pub oneMissingText : answerText oneMissing
       ≡ 116 ∷ 97 ∷ 98 ∷ 108 ∷ 101 ∷ 115 ∷ 32 ∷ 49 ∷ 32
       ∷ 115 ∷ 101 ∷ 116 ∷ 115 ∷ 32 ∷ 50 ∷ 32
-      ∷ 101 ∷ 110 ∷ 116 ∷ 114 ∷ 105 ∷ 101 ∷ 115 ∷ 32 ∷ 50 ∷ 10
-      ∷ 48 ∷ 32 ∷ 48 ∷ 32 ∷ 48 ∷ 10
+      ∷ 101 ∷ 110 ∷ 116 ∷ 114 ∷ 105 ∷ 101 ∷ 115 ∷ 32 ∷ 49 ∷ 10
       ∷ 48 ∷ 32 ∷ 48 ∷ 32 ∷ 114 ∷ 111 ∷ 119 ∷ 10
       ∷ []
   -- `refused 1`, `refused 6` and `refused 16`

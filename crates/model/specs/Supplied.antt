@@ -1,6 +1,6 @@
--- Packed lists with evidence (document 02, b and d): the album's list and six records, which are accepted, and what is
--- refused: for each ground of 17 to 19 a call that has no other refusal against it, the nearest that is accepted, and
--- the order. That the right is in the set is never the only ground of 17: rows that agree on such a set agree on it.
+-- Packed lists with evidence (document 02, b, d and e): the album's list and six records, which are accepted, and what
+-- is refused: for each ground of 17 to 19 a call that has no other refusal against it, the nearest that is accepted,
+-- and the order. That the right is in the set is never the only ground of 17: rows that agree on the set agree on it.
 use Prim.Native.Nat.{ℕ}
 use mathlib.Core.Path.{_≡_}
 use mathlib.Core.List.{List, [], _∷_, _++_}
@@ -13,7 +13,7 @@ use Rattle.model.specs.Packing.{packed}
 use Rattle.model.specs.Reading.{entriesHeld, readCode}
 use Rattle.model.specs.Evidence.{recordsBytes, recordsHeld}
 use Rattle.model.specs.Verify.{recordsCode, soundCode, coverCode, verifyCode, verifyMeaning}
-use Rattle.model.specs.Album.{album, noRows, oneMissing, bothMissing, keyBelow, lostAbove}
+use Rattle.model.specs.Album.{album, noRows, oneMissing, bothMissing, keyBelow, lostAbove, twoKeys, twins}
 use Rattle.model.specs.Damaged.{cut, unknownParentRow}
 use Rattle.model.specs.RefusedCalls.{OnlyOf, emptyList}
 use Rattle.model.specs.declared.Entry.{Entry}
@@ -37,16 +37,19 @@ albumRecords =
 unfoldable pub albumEvidence : List ℕ
 albumEvidence = recordsBytes albumRecords
 
--- the grounds against a call on the album, by number
-abbrev pub AlbumOnly : List ℕ → List ℕ → ℕ → Type 0
-AlbumOnly file bytes =
-    OnlyOf (verifyCode album file bytes)
-    (checkCode album
+-- the grounds against a call, by number; and against a call on the album
+abbrev pub CallOnly : List ℕ → List ℕ → List ℕ → ℕ → Type 0
+CallOnly cat file bytes =
+    OnlyOf (verifyCode cat file bytes)
+    (checkCode cat
     ∷ readCode file
-    ∷ recordsCode album bytes
-    ∷ soundCode album (entriesHeld file)
-    ∷ coverCode album (entriesHeld file) (recordsHeld bytes)
+    ∷ recordsCode cat bytes
+    ∷ soundCode cat (entriesHeld file)
+    ∷ coverCode cat (entriesHeld file) (recordsHeld bytes)
     ∷ [])
+
+abbrev pub AlbumOnly : List ℕ → List ℕ → ℕ → Type 0
+AlbumOnly = CallOnly album
 
 -- the album's list with one more record
 abbrev pub MoreOnly : Evidence → ℕ → Type 0
@@ -72,7 +75,22 @@ bothEvidence = recordsBytes (evidence 0 0 0 0 1 ∷ evidence 0 0 row 0 1 ∷ [])
 
 -- the full listing where the root's cell is missing
 unfoldable pub lostList : List ℕ
-lostList = packed (entry 0 0 0 ∷ entry 0 0 row ∷ entry 1 0 1 ∷ [])
+lostList = packed (entry 0 0 row ∷ entry 1 0 1 ∷ [])
+
+-- the evidence where {0} and {1, 2} are keys: {1} and {2} give neither the other columns nor the row
+unfoldable pub keysEvidence : List ℕ
+keysEvidence =
+    recordsBytes
+    (evidence 0 2 0 0 1 ∷ evidence 0 4 0 0 2 ∷ evidence 0 4 1 0 2 ∷ evidence 0 2 2 0 1 ∷ evidence 0 2 row 0 1
+    ∷ evidence 0 4 row 0 2 ∷ [])
+
+-- lists with it
+abbrev pub KeysOnly : List Entry → ℕ → Type 0
+KeysOnly es = CallOnly twoKeys (packed es) keysEvidence
+
+-- the evidence of two equal rows: no set is a key
+unfoldable pub twinsEvidence : List ℕ
+twinsEvidence = recordsBytes (evidence 0 3 row 0 1 ∷ [])
 
 pub record Supplied : Type 0 where
   -- accepted: 3 entries and 6 records; also behind other bytes, and with the records repeated, in another order, or
@@ -87,19 +105,25 @@ pub record Supplied : Type 0 where
   pub bytes : recordsBytes (evidence 1 258 3 772 1286 ∷ []) ≡ 1 ∷ 3 ∷ 2 ∷ 1 ∷ 4 ∷ 3 ∷ 6 ∷ 5 ∷ []
   pub readBack : recordsHeld albumEvidence ≡ albumRecords
   pub readWide : recordsHeld (1 ∷ 3 ∷ 2 ∷ 1 ∷ 4 ∷ 3 ∷ 6 ∷ 5 ∷ []) ≡ evidence 1 258 3 772 1286 ∷ []
-  -- of one row every right has the empty left, and no record is true; without rows nothing is listed
-  pub noEvidence : verifyMeaning oneMissing (packed (entry 0 0 0 ∷ entry 0 0 row ∷ [])) [] ≡ answered (2 ∷ 0 ∷ [])
+  -- of one row the empty left is a key, and no record is true; without rows nothing is listed
+  pub noEvidence : verifyMeaning oneMissing (packed (entry 0 0 row ∷ [])) [] ≡ answered (1 ∷ 0 ∷ [])
   pub nothingListed : verifyMeaning noRows emptyList [] ≡ answered (0 ∷ 0 ∷ [])
   -- a set that is not backed needs no cover: {0} where both cells are missing, a key that is not listed; below a root
   -- whose cell is missing {0} and {0, 1}, which fail, where {1} has a record. The record may be that of {0, 1}
   pub unlistedKey : verifyMeaning bothMissing emptyList bothEvidence ≡ answered (0 ∷ 2 ∷ [])
   pub backedOnly : verifyMeaning lostAbove lostList (recordsBytes (evidence 1 2 row 0 1 ∷ []))
-      ≡ answered (3 ∷ 1 ∷ [])
+      ≡ answered (2 ∷ 1 ∷ [])
   pub unbackedRecord : verifyMeaning lostAbove lostList (recordsBytes (evidence 1 3 row 0 1 ∷ []))
-      ≡ answered (3 ∷ 1 ∷ [])
-  -- a left may contain one that is listed for another target
-  pub keyOfRoot : verifyMeaning keyBelow (packed (entry 0 0 0 ∷ entry 0 0 row ∷ entry 1 2 row ∷ [])) keyEvidence
-      ≡ answered (3 ∷ 2 ∷ [])
+      ≡ answered (2 ∷ 1 ∷ [])
+  -- a left may contain one that is listed for another target, and that of a column a key of another target, as {} of
+  -- the list above
+  pub keyOfRoot : verifyMeaning keyBelow (packed (entry 0 0 row ∷ entry 1 2 row ∷ [])) keyEvidence
+      ≡ answered (2 ∷ 2 ∷ [])
+  -- a listed key covers for every right: {0} for 1 and 2, {1, 2} for 0
+  pub keysCover : verifyMeaning twoKeys (packed (entry 0 1 row ∷ entry 0 6 row ∷ [])) keysEvidence
+      ≡ answered (2 ∷ 6 ∷ [])
+  -- where there is no key, columns stand for themselves
+  pub noKeys : verifyMeaning twins (packed (entry 0 0 0 ∷ entry 0 0 1 ∷ [])) twinsEvidence ≡ answered (2 ∷ 1 ∷ [])
   -- 17: the last record is broken, by a byte less and by a byte more
   pub byteLess : verifyCode album albumList (take 47 albumEvidence) ≡ 17
   pub byteMore : AlbumOnly albumList (albumEvidence ++ 0 ∷ []) 17
@@ -126,22 +150,23 @@ pub record Supplied : Type 0 where
   -- without the column that is not visible it would hold and contain no other, so 19 stands against the call too
   pub columnFirst : verifyCode album (packed (entry 1 3 row ∷ entry 1 6 row ∷ entry 1 9 2 ∷ [])) albumEvidence ≡ 18
   pub entryFails : ListedOnly (entry 1 1 2 ∷ entry 1 2 2 ∷ entry 1 3 row ∷ entry 1 6 row ∷ []) 18
-  pub containsAnother : ListedOnly (entry 1 1 2 ∷ entry 1 3 2 ∷ entry 1 3 row ∷ entry 1 6 row ∷ []) 18
+  pub containsAnother : CallOnly twins (packed (entry 0 0 0 ∷ entry 0 0 1 ∷ entry 0 2 0 ∷ [])) twinsEvidence 18
   -- 18: an entry is not backed, though it holds and contains no other: without rows, and where both cells are missing
   pub noRowsEntry : verifyCode noRows (packed (entry 0 0 row ∷ [])) [] ≡ 18
-  pub unbackedEntry : OnlyOf (verifyCode bothMissing (packed (entry 0 1 row ∷ [])) bothEvidence)
-      (checkCode bothMissing
-      ∷ readCode (packed (entry 0 1 row ∷ []))
-      ∷ recordsCode bothMissing bothEvidence
-      ∷ soundCode bothMissing (entriesHeld (packed (entry 0 1 row ∷ [])))
-      ∷ coverCode bothMissing (entriesHeld (packed (entry 0 1 row ∷ []))) (recordsHeld bothEvidence)
-      ∷ []) 18
+  pub unbackedEntry : CallOnly bothMissing (packed (entry 0 1 row ∷ [])) bothEvidence 18
   pub containsKey : ListedOnly (entry 1 1 2 ∷ entry 1 3 row ∷ entry 1 6 row ∷ entry 1 7 row ∷ []) 18
+  -- 18: the left of a column's entry is a listed key, or contains one, though it contains no other left that is listed
+  -- for the column
+  pub givenByKey : KeysOnly (entry 0 1 1 ∷ entry 0 1 row ∷ entry 0 6 row ∷ []) 18
+  pub givenByLast : KeysOnly (entry 0 1 row ∷ entry 0 6 0 ∷ entry 0 6 row ∷ []) 18
+  pub aboveKey : KeysOnly (entry 0 1 row ∷ entry 0 3 2 ∷ entry 0 6 row ∷ []) 18
   -- 19: an entry is missing, or has a column too many; a record is missing, is for another right or another target, or
   -- has a set too small
   pub entryMissing : ListedOnly (entry 1 3 row ∷ entry 1 6 row ∷ []) 19
   pub keyMissing : ListedOnly (entry 1 1 2 ∷ entry 1 6 row ∷ []) 19
-  pub larger : ListedOnly (entry 1 3 2 ∷ entry 1 3 row ∷ entry 1 6 row ∷ []) 19
+  pub larger : ListedOnly (entry 1 3 2 ∷ entry 1 6 row ∷ []) 19
+  -- 19: columns are listed in place of the key that gives them, which do not cover for the row
+  pub columnsForKey : KeysOnly (entry 0 1 1 ∷ entry 0 1 2 ∷ entry 0 6 row ∷ []) 19
   pub noEntry : AlbumOnly emptyList albumEvidence 19
   pub noRecord : WithOnly [] 19
   pub recordMissing : AlbumOnly albumList (take 40 albumEvidence) 19
@@ -152,8 +177,8 @@ pub record Supplied : Type 0 where
   pub smallerSet : WithOnly (evidence 0 0 0 0 2 ∷ evidence 0 0 row 0 1 ∷ evidence 1 5 1 0 1 ∷ evidence 1 2 2 0 2
       ∷ evidence 1 5 row 0 1 ∷ evidence 1 2 row 0 2 ∷ []) 19
   -- 19: the empty set alone is uncovered; what would cover is listed for another target
-  pub emptyUncovered : verifyCode oneMissing (packed (entry 0 0 row ∷ [])) [] ≡ 19
-  pub keyOfRootAlone : verifyCode keyBelow (packed (entry 0 0 0 ∷ entry 0 0 row ∷ [])) keyEvidence ≡ 19
+  pub emptyUncovered : verifyCode oneMissing (packed (entry 0 0 0 ∷ [])) [] ≡ 19
+  pub keyOfRootAlone : verifyCode keyBelow (packed (entry 0 0 row ∷ [])) keyEvidence ≡ 19
   -- 19: a record of a set that is not backed does not cover a backed one
   pub backedUncovered : verifyCode lostAbove lostList (recordsBytes (evidence 1 1 row 0 1 ∷ [])) ≡ 19
   -- the order: the catalogue, then the list, then 17, 18 and 19

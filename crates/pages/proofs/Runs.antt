@@ -27,7 +27,7 @@ use Rattle.model.proofs.Grounds.{reply-answered}
 use Rattle.model.proofs.Rightly.{run-answered}
 use Rattle.model.proofs.Listing.{cells-length}
 use Rattle.model.proofs.Complete.{after-none}
-use Rattle.model.proofs.Rights.{ordinary-bounded}
+use Rattle.model.proofs.Rights.{ordinary-bounded, ordinary-row}
 use Rattle.model.proofs.Short.{cell-short}
 use Rattle.model.specs.Calls.{seen}
 use Rattle.listing.specs.Filled.{runBound, cap, FilledBy}
@@ -61,7 +61,7 @@ first-records c r es rest run e l h =
     sym (take-take c r run (omega arith)) ∙ ap (take c) e ∙ take-at es rest c (sym l)
 
 module _ (cat : List ℕ) (last : ℕ) (h : Listable cat last) (place : ℕ) (inRange : place ≤ last) (work : List ℕ)
-    (enough : workBound ≤ length work) (r : ℕ) (room : suc columnBound ≤ r) where
+    (enough : workBound ≤ length work) (r : ℕ) (room : columnBound ≤ r) where
   abbrev cs : List (List Entry)
   cs = cells (ordinary cat)
 
@@ -78,7 +78,11 @@ module _ (cat : List ℕ) (last : ℕ) (h : Listable cat last) (place : ℕ) (in
 
   wide : (p : ℕ) → length (getD cs p []) ≤ length (replicate r (entry 0 0 0))
   wide p =
-      omega (arith, cell-short (ordinary cat) (ordinary-bounded cat (h .accepted)) p, length-replicate r (entry 0 0 0))
+      omega (
+        arith,
+        cell-short (ordinary cat) (ordinary-bounded cat (h .accepted)) (ordinary-row cat) p,
+        length-replicate r (entry 0 0 0),
+      )
 
   -- nothing stands against it
   no-code : listCode cat place last (length (replicate r (entry 0 0 0))) (length work) ≡ 0

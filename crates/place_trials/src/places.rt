@@ -1,6 +1,6 @@
 // Listing calls that pass one set, each against the walk from place 0: at every place of 6 columns, and of 16 columns
-// at the first and the last place of each size and at the middle ones; on one catalogue for all places, and on one in
-// which the set at the place has entries.
+// at the first and the last place of each size and at the middle ones; on one catalogue for all places, on one in which
+// the set at the place is a key, and on one in which it gives all other columns and is none.
 use columns::ColumnSet;
 use columns::SetOrNone;
 use listing::Filled;
@@ -91,15 +91,19 @@ fn at_front(bytes: &[u8], n: usize, place: u32, work: &mut [u32]) {
     }
 }
 
-// The calls at a place, on a line, on a catalogue of n columns in which a set has entries.
-fn trial(bytes: &mut [u8], n: u32, place: u32, set: ColumnSet, work: &mut [u32]) {
+// The calls at a place, on a line, on a catalogue of n columns in which a set has entries: as a key, or for columns.
+fn trial(bytes: &mut [u8], n: u32, place: u32, set: ColumnSet, twice: bool, work: &mut [u32]) {
     print_word(b"columns");
     print_count(n as u64);
-    print_word(b" key");
+    if twice {
+        print_word(b" determinant");
+    } else {
+        print_word(b" key");
+    }
     print_count(set.bits as u64);
     print_word(b" place");
     print_count(place as u64);
-    let size = keyed(bytes, n, set);
+    let size = keyed(bytes, n, set, twice);
     at_front(bytes, size, place, work);
     end();
 }
@@ -124,12 +128,13 @@ fn is_tried(n: u32, place: u32, set: ColumnSet) -> bool {
     y & (y + 1) == 0
 }
 
-// A place that is tried, on a catalogue in which its set has entries, and on one for all places: there columns 0, 2 and
-// 4 are a key, and each other column.
+// A place that is tried, on the catalogues in which its set has entries, and on one for all places: there columns 0, 2
+// and 4 are a key, and each other column.
 fn visit(bytes: &mut [u8], n: u32, place: u32, set: ColumnSet, work: &mut [u32]) {
     if is_tried(n, place, set) {
-        trial(bytes, n, place, set, work);
-        trial(bytes, n, place, ColumnSet { bits: 21 }, work);
+        trial(bytes, n, place, set, false, work);
+        trial(bytes, n, place, set, true, work);
+        trial(bytes, n, place, ColumnSet { bits: 21 }, false, work);
     }
 }
 
@@ -149,7 +154,7 @@ fn places(bytes: &mut [u8], n: u32, work: &mut [u32]) {
 
 // 6 and 16 columns.
 pub fn trial_places() {
-    let mut bytes = [0u8; 2048];
+    let mut bytes = [0u8; 4096];
     let mut work = [0u32; 16384];
     places(&mut bytes, 6, &mut work);
     places(&mut bytes, 16, &mut work);

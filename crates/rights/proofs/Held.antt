@@ -12,12 +12,16 @@ use Rattle.columns.specs.Bound.{columnBound}
 use Rattle.columns.specs.Set.{bit}
 use Rattle.columns.proofs.Bits.{bit-past}
 use Rattle.model.specs.Bounds.{workBound}
-use Rattle.model.specs.Catalogue.{rows, visible}
-use Rattle.model.specs.Listing.{Listing, widthOf}
+use Rattle.model.specs.Catalogue.{tables, rows, visible}
+use Rattle.model.specs.Check.{Accepted}
+use Rattle.model.specs.Listing.{Listing, widthOf, ordinary}
 use Rattle.model.specs.View.{View, Equivalence, Backed}
 use Rattle.model.proofs.Backed.{true-backed, false-backed}
 use Rattle.model.specs.Target.{view, ownRights}
-use Rattle.model.proofs.Rights.{own-rights-lt}
+use Rattle.model.proofs.Check.{accepted-visible}
+use Rattle.model.proofs.Climb.{inherited-visible}
+use Rattle.model.proofs.Target.{view-equivalence}
+use Rattle.model.proofs.Rights.{own-rights-lt, own-rights-bit}
 use Rattle.filled.specs.Filled.{Filled}
 use Rattle.table.specs.Words.{word, Closed, ReadOff}
 use Rattle.table.specs.Broken.{Scanned, minimalMask}
@@ -34,10 +38,10 @@ use Rattle.leaders.specs.Keys.{keyView, Keyed}
 use Rattle.leaders.proofs.Keys.{keyed-rights}
 use Rattle.passing.specs.declared.Held.{Held}
 use Rattle.passing.specs.declared.Held.the-variants.{Table, Seeds}
-use Rattle.rights.specs.Kept.{kept}
+use Rattle.rights.specs.Kept.{undropped, kept}
 use Rattle.rights.specs.Ready.{Tabled, Seeded, BackedPut, Holding, Ready, Readable, MinimalBy, BackedBy, KeptBy}
 use Rattle.rights.specs.Rights.{listedRights}
-use Rattle.rights.proofs.Kept.{kept-listed, kept-all, kept-no}
+use Rattle.rights.proofs.Kept.{kept-listed, kept-backed, kept-no}
 
 -- where a word for each left side is not lent, the view has five members or more, and two planes and a pair fit
 pub narrow-wide : (n m : ℕ) → workBound ≤ m → m < 2 ^ n → 5 ≤ n
@@ -158,27 +162,36 @@ seeds-backed n x r words l is v own e h =
     (λ o. b .0 (sym is ∙ o), λ w. is ∙ b .1 w)
 
 -- what the filter keeps by it
-pub kept-by : (n x minimal b : ℕ) (held : Held) (words : List ℕ) → BackedBy n x held words b → b ≡ 1
-    → KeptBy n x held words minimal minimal
-kept-by n x minimal b held words is e v own m h =
-    kept-all v x minimal (true-backed v x (is v own m h .0 e))
+pub kept-by : (n x minimal b r : ℕ) (held : Held) (words : List ℕ) → BackedBy n x held words b → b ≡ 1
+    → r ≡ undropped n minimal → KeptBy n x held words minimal r
+kept-by n x minimal b r held words is e stays v own m h =
+    kept-backed v x n minimal r m (true-backed v x (is v own m h .0 e)) stays
 
 pub dropped-by : (n x minimal b : ℕ) (held : Held) (words : List ℕ) → BackedBy n x held words b → (b ≡ 1 → ⊥)
     → KeptBy n x held words minimal 0
 dropped-by n x minimal b held words is d v own m h =
     kept-no v x minimal (false-backed v x (λ w. d (is v own m h .1 w)))
 
+-- what the filter asks of a target of a listing and a left side of it: no more members than the bound, agreement that
+-- is an equivalence, a set of its members, and the row among its rights
+pub record Filtered (l : Listing) (target x : ℕ) : Type 0 where
+  pub equal : Equivalence (l .view target)
+  pub few : widthOf l target ≤ columnBound
+  pub below : x < 2 ^ widthOf l target
+  pub row : bit (l .rights target) (widthOf l target) ≡ 1
+
 -- a target of any listing: the minimal rights that the filter keeps are its listed rights
-module _ (l : Listing) (target : ℕ) where
-  pub kept-rights : {own found r : ℕ} (x : ℕ) → own ≡ l .rights target → found ≡ minimalMask (l .view target) own x
+module _ (l : Listing) (target : ℕ) {x : ℕ} (filtered : Filtered l target x) where
+  pub kept-rights : {own found r : ℕ} → own ≡ l .rights target → found ≡ minimalMask (l .view target) own x
       → r ≡ kept (l .view target) x found → r ≡ listedRights l target x
-  kept-rights x e f k =
+  kept-rights e f k =
       k
       ∙ ap (kept (l .view target) x) (f ∙ ap (λ (m : ℕ). minimalMask (l .view target) m x) e)
-      ∙ kept-listed (l .view target) (l .rights target) x
+      ∙ kept-listed (l .view target) (l .rights target) x (filtered .equal) (filtered .few) (filtered .below)
+      (filtered .row)
 
   -- by what the words hold
-  module _ {n x own found : ℕ} {held : Held} {before after : List ℕ} (ready : Ready l target held own before)
+  module _ {n own found : ℕ} {held : Held} {before after : List ℕ} (ready : Ready l target held own before)
       (members : n ≡ widthOf l target) (given : MinimalBy n x held own before after found) where
     pub ready-still : Ready l target held own after
     ready-still =
@@ -186,17 +199,27 @@ module _ (l : Listing) (target : ℕ) where
 
     pub ready-rights : {r : ℕ} → KeptBy n x held after found r → r ≡ listedRights l target x
     ready-rights k =
-        kept-rights x (ready .rights) (given .minimal (l .view target) (sym members) (ready .holding))
+        kept-rights (ready .rights) (given .minimal (l .view target) (sym members) (ready .holding))
         (k (l .view target) own (sym members) (ready-still .holding))
 
   -- by itself
-  pub alone-rights : {n end own found r : ℕ} {keys : List ℕ} (x : ℕ) → own ≡ l .rights target
+  pub alone-rights : {n end own found r : ℕ} {keys : List ℕ} → own ≡ l .rights target
       → Keyed (l .view target) (2 ^ n - 1) n end keys → found ≡ minimalMask (keyView keys n end) own x
       → r ≡ kept (l .view target) x found → r ≡ listedRights l target x
-  alone-rights {own = own} x e keyed is k = kept-rights x e (is ∙ sym (keyed-rights keyed own x)) k
+  alone-rights {own = own} e keyed is k = kept-rights e (is ∙ sym (keyed-rights keyed own x)) k
 
 -- the keys of all members of a table, the sets of its rows, and its rights
 module _ (cat : List ℕ) (target : ℕ) where
+  pub filtered : {x : ℕ} → Accepted cat → target < tables cat → x < 2 ^ visible cat target
+      → Filtered (ordinary cat) target x
+  filtered ok known l =
+      record {
+        equal = view-equivalence cat target;
+        few = accepted-visible cat ok target known;
+        below = l;
+        row = own-rights-bit cat target (visible cat target) .1 (inherited-visible cat target, omega arith);
+      }
+
   pub keyed-rows : {set n end : ℕ} {keys : List ℕ} → end ≡ rows cat target
       → Keyed (view cat target) set n (rows cat target) keys → Keyed (view cat target) set n end keys
   keyed-rows {set} {n} {keys = keys} e keyed = subst (λ (m : ℕ). Keyed (view cat target) set n m keys) (sym e) keyed

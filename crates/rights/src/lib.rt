@@ -1,7 +1,7 @@
 // Not for callers: the listed rights of one left side, for the listing call: by itself (`alone`), or by what is kept in
 // the work words. Then `prepare` is called where a call enters a target, and `rights` for each left side of it; what
 // the two keep in the words between calls is theirs alone. The engine finds what is minimal; `filter` says what of it
-// is listed, by the mark of what is backed.
+// is listed, by the mark of what is backed and by the bit of the row.
 // Relies on `keys` for the keys of a target, on `presence` for what is backed, on `scan`, `table`, `planes` and
 // `blocks` for what the words hold, on `partition` for one left side alone, on `layout` for how many rows and columns
 // there are and on `passing` for the type that tells what the words hold. No cell is looked at but in `keys` and
@@ -19,7 +19,7 @@ ghost use Rattle.table.specs.Words.{word};
 ghost use Rattle.table.specs.Broken.{Scanned};
 ghost use Rattle.leaders.specs.Keys.{Keyed};
 ghost use Rattle.filled.specs.Filled.{Filled};
-ghost use Rattle.rights.specs.Kept.{kept};
+ghost use Rattle.rights.specs.Kept.{undropped, kept};
 ghost use Rattle.rights.specs.Ready.{Tabled, BackedPut, Holding, Ready, Readable, MinimalBy, BackedBy, KeptBy};
 ghost use Rattle.rights.specs.Rights.{listedRights};
 use bits::power;
@@ -40,7 +40,20 @@ pub struct Entered {
     pub mask: u32,
 }
 
-// Of the minimal rights of a left side of a target, by itself, those that are listed: all if it is backed, else none.
+// Of the minimal rights of a left side of any view of n members, those that are not dropped: where the row's bit stands
+// only it stays, since a key stands for what it gives.
+fn undropped(n: u32, minimal: u32) -> u32
+    requires { ⌜ n ≤ columnBound ⌝ }
+    ensures { λ r. ⌜ r ≡ undropped n minimal ⌝ }
+{
+    if (minimal >> n) % 2 == 1 {
+        return power(n);
+    }
+    minimal
+}
+
+// Of the minimal rights of a left side of a target, by itself, those that are listed: none if it is not backed, the row
+// alone if it is a key, else all.
 fn filter_alone(cat: &[u8], target: u32, n: u32, left: u32, minimal: u32) -> u32
     requires { ⌜ Accepted (now cat) ⌝ }
     requires { ⌜ target < tables (now cat) ⌝ }
@@ -54,7 +67,7 @@ fn filter_alone(cat: &[u8], target: u32, n: u32, left: u32, minimal: u32) -> u32
     presence::lay(cat, target, n, &mut sets);
     let end = rows(cat, target) as usize;
     if presence::is_backed(&sets, end, left) {
-        return minimal;
+        return undropped(n, minimal);
     }
     0
 }
@@ -202,7 +215,7 @@ fn backed_bit(n: u32, left: u32, held: Held, work: &[u32]) -> u32
 }
 
 // Of the minimal rights of a left side of any view of n members, those that are listed, by what the work words hold:
-// all if it is backed, else none.
+// none if it is not backed, the row alone if it is a key, else all.
 fn filter(n: u32, left: u32, held: Held, minimal: u32, work: &[u32]) -> u32
     requires { ⌜ (n ≤ columnBound) × (left < 2 ^ n) × Readable held n (now work) ⌝ }
     ensures { λ r. ⌜ KeptBy n left held (now (work .entry)) minimal r ⌝ }
@@ -211,7 +224,7 @@ fn filter(n: u32, left: u32, held: Held, minimal: u32, work: &[u32]) -> u32
         return 0;
     }
     if backed_bit(n, left, held, work) == 1 {
-        return minimal;
+        return undropped(n, minimal);
     }
     0
 }

@@ -11,7 +11,8 @@ use Rattle.model.specs.Catalogue.{tables, visible, inherited}
 use Rattle.model.specs.Rights.{rightAt}
 use Rattle.model.specs.View.{View, Holds, Backed, Equivalence, holds}
 use Rattle.model.specs.Target.{view}
-use Rattle.model.specs.Verify.{EntryFor, NoOther, SoundEntry}
+use Rattle.model.specs.Contains.{EntryFor}
+use Rattle.model.specs.Verify.{NoOther, NoKey, SoundEntry}
 use Rattle.model.specs.declared.Entry.{Entry}
 use Rattle.model.proofs.Rights.{rightAt-row, rightAt-column}
 use Rattle.model.proofs.View.{holds-true, holds-false}
@@ -43,30 +44,32 @@ unbroken-is v a plane x is l = (
     at false e z = absurd (omega (arith, is x l .1 e))
 
 -- what the planes say of the entries for a right
-pub sound-in : (v : View) (es : List Entry) (target n m a right : ℕ) (seeds backed broken lefts : List ℕ) {r : Bool}
-    → n ≤ m → n ≤ columnBound → a ≤ n → right ≡ rightAt n a → LeftsWithin n target es
-    → PlaneFrom m a seeds broken → LeftsClosed es target right m lefts
-    → (r ≡ true) ↔ Each (SoundBy backed broken lefts m target right) es
+pub sound-in : (v : View) (es : List Entry) (target n m a right : ℕ) (seeds backed broken keys lefts : List ℕ)
+    {r : Bool} → n ≤ m → n ≤ columnBound → a ≤ n → right ≡ rightAt n a → LeftsWithin n target es
+    → PlaneFrom m a seeds broken → LeftsClosed es target row m keys → LeftsClosed es target right m lefts
+    → (r ≡ true) ↔ Each (SoundBy backed broken keys lefts m target right) es
     → v .members ≡ n → Equivalence v → SeedsBelow v m seeds → BackedPlane v backed
     → (r ≡ true) ↔ SoundIn v es target (rightAt n a)
-sound-in v es target n m a right seeds backed broken lefts {r} nm few an er narrow fill closed is en eq sown there =
+sound-in v es target n m a right seeds backed broken keys lefts {r} nm few an er narrow fill key left is en eq sown
+    there =
     subst (λ (b : ℕ). (r ≡ true) ↔ SoundIn v es target b) er (
       λ t e i for.
           let w = words .0 (is .0 t) e i for in
-          (there (e .left) (below e i for) .0 (w .0), holds e i for .0 (w .1), w .2),
+          (there (e .left) (below e i for) .0 (w .0), holds e i for .0 (w .1), w .2, w .3),
       λ h. is .1 (words .1 (λ e i for.
           let w = h e i for in
-          (there (e .left) (below e i for) .1 (w .0), holds e i for .1 (w .1), w .2))),
+          (there (e .left) (below e i for) .1 (w .0), holds e i for .1 (w .1), w .2, w .3))),
     )
   where
     plane : Plane v a broken
     plane = seeds-filled-plane v m a seeds broken eq (omega arith) (omega arith) (omega arith) sown fill
 
-    words : Each (SoundBy backed broken lefts m target right) es
+    words : Each (SoundBy backed broken keys lefts m target right) es
         ↔ ((e : Entry) → List·Memᴰ e es → EntryFor target right e → (planeBit backed (e .left) ≡ 1)
-        × (planeBit broken (e .left) ≡ 0) × NoOther es e)
+        × (planeBit broken (e .left) ≡ 0) × NoOther es e × NoKey es e)
     words =
-        sound-entries-is es target right m backed broken lefts closed (lefts-narrow n m target right es nm narrow)
+        sound-entries-is es target right m backed broken keys lefts key left
+        (lefts-narrow n m target right es nm narrow)
 
     below : (e : Entry) → List·Memᴰ e es → EntryFor target right e → e .left < 2 ^ v .members
     below e i for = subst (λ (k : ℕ). e .left < 2 ^ k) (sym en) (narrow e i (for .0))
@@ -103,7 +106,7 @@ module _ (cat : List ℕ) (target : ℕ) (es : List Entry) where
     λ sound a l u e i for.
         let s = sound e i (for .0) in
         let there = subst (λ (t : ℕ). Backed (view cat t) (e .left)) (for .0) (s .backed) in
-        (there, held e (for .0) (for .1) (s .holds), s .alone),
+        (there, held e (for .0) (for .1) (s .holds), s .alone, s .keyless),
   )
     where
       held : (e : Entry) → e .target ≡ target → {b : ℕ} → e .right ≡ b
@@ -130,6 +133,7 @@ module _ (cat : List ℕ) (target : ℕ) (es : List Entry) where
             holds = subst (λ (t : ℕ). Holds (view cat t) (e .left) (e .right)) (sym is)
                 (subst (λ (c : ℕ). Holds (view cat target) (e .left) c) (sym (w .3)) (s .1));
             alone = s .2;
+            keyless = s .3;
           }
         where
           wide-left : (e : Entry) → e .target ≡ target → e .left < 2 ^ n → e .left < 2 ^ visible cat (e .target)

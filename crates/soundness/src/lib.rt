@@ -1,6 +1,7 @@
 // Not for callers: are the entries of a list that are for a target sound? That they are backed comes from the cells
 // that are present, and that they hold from one scan of the target's rows; that they contain no other listed left is
-// read off the plane of the listed lefts, one right at a time.
+// read off the plane of the listed lefts, one right at a time, and that those for a column contain no listed key off
+// the plane of the listed keys.
 // Relies on `evidence` for the sides that a target allows, on `presence` for the backed lefts, on `keys` and `scan` for
 // the agree sets that occur, on `planes` and `marks` for the planes, and on `layout` for how many rows and columns
 // there are. Called by `verify`.
@@ -10,6 +11,7 @@ ghost use mathlib.Core.Bool.{true};
 ghost use mathlib.Core.Logic.{_↔_};
 ghost use lib.ListN.{length};
 ghost use Rattle.columns.specs.Bound.{columnBound};
+ghost use Rattle.model.specs.Bounds.{row};
 ghost use Rattle.model.specs.Catalogue.{tables, visible as visibleOf};
 ghost use Rattle.model.specs.Check.{Accepted};
 ghost use Rattle.model.specs.Entries.{entryBytes, entriesFrom};
@@ -20,6 +22,7 @@ ghost use Rattle.planes.specs.Marks.{RoomFor};
 ghost use Rattle.planes.specs.Plane.{SeedsBelow, BackedPlane};
 ghost use Rattle.evidence.specs.Lists.{Each};
 ghost use Rattle.evidence.specs.Sides.{LeftsWithin};
+ghost use Rattle.marks.specs.Listed.{LeftsClosed};
 ghost use Rattle.soundness.specs.Sound.{FitsFor, SoundIn, SoundFor};
 use entries::entry_from;
 use evidence::sides_fit;
@@ -33,6 +36,7 @@ use marks::entries_sound;
 use marks::wide;
 use model::ENTRY_BYTES;
 use model::Entry;
+use model::ROW;
 use planes::PLANE;
 use presence::backed_plane;
 use scan::sow_among;
@@ -110,10 +114,12 @@ fn right_sound(
     a: u32,
     seeds: &[u32],
     backed: &[u32],
+    keys: &[u32],
 ) -> bool
     requires { ⌜ (n ≤ m) × (n ≤ columnBound) × (a ≤ n) × RoomFor m (now seeds) × RoomFor m (now backed)
         × (first + entryBytes * count ≤ length (now list))
-        × LeftsWithin n target (entriesFrom (now list) count first) ⌝ }
+        × LeftsWithin n target (entriesFrom (now list) count first)
+        × RoomFor m (now keys) × LeftsClosed (entriesFrom (now list) count first) target row m (now keys) ⌝ }
     ensures { λ r. ⌜ ((v : View) → v .members ≡ n → Equivalence v → SeedsBelow v m (now (seeds .entry))
         → BackedPlane v (now (backed .entry))
         → (r ≡ true) ↔ SoundIn v (entriesFrom (now (list .entry)) count first) target (rightAt n a)) ⌝ }
@@ -131,6 +137,7 @@ fn right_sound(
         right,
         backed,
         &broken,
+        keys,
         &lefts,
         m,
     )
@@ -147,10 +154,12 @@ fn rights_sound(
     low: u32,
     seeds: &[u32],
     backed: &[u32],
+    keys: &[u32],
 ) -> bool
     requires { ⌜ (n ≤ m) × (n ≤ columnBound) × (low ≤ n) × RoomFor m (now seeds) × RoomFor m (now backed)
         × (first + entryBytes * count ≤ length (now list))
-        × LeftsWithin n target (entriesFrom (now list) count first) ⌝ }
+        × LeftsWithin n target (entriesFrom (now list) count first)
+        × RoomFor m (now keys) × LeftsClosed (entriesFrom (now list) count first) target row m (now keys) ⌝ }
     ensures { λ r. ⌜ ((v : View) → v .members ≡ n → Equivalence v → SeedsBelow v m (now (seeds .entry))
         → BackedPlane v (now (backed .entry))
         → (r ≡ true) ↔ ((a : ℕ) → a < n + 1 → low ≤ a
@@ -158,7 +167,7 @@ fn rights_sound(
 {
     let mut a = low;
     while a <= n {
-        if !right_sound(list, count, first, target, n, m, a, seeds, backed) {
+        if !right_sound(list, count, first, target, n, m, a, seeds, backed, keys) {
             return false;
         }
         a += 1;
@@ -183,5 +192,18 @@ pub fn target_sound(cat: &[u8], target: u32, list: &[u8], count: u32, first: usi
     sow(cat, target, n, m, &mut seeds);
     let mut backed = [0; PLANE];
     backed_plane(cat, target, n, m, &mut backed);
-    rights_sound(list, count, first, target, n, m, low, &seeds, &backed)
+    let mut keys = [0; PLANE];
+    close_lefts(list, count, first, target, ROW, m, &mut keys);
+    rights_sound(
+        list,
+        count,
+        first,
+        target,
+        n,
+        m,
+        low,
+        &seeds,
+        &backed,
+        &keys,
+    )
 }

@@ -70,15 +70,20 @@ pub fn flat(b: &mut [u8], n: u32, r: u32) -> usize {
     finish(b, next, 1, end)
 }
 
+// One table of n columns and r equal rows.
+pub fn equal(b: &mut [u8], n: u32, r: u32) -> usize {
+    let end = table(b, 0, n, 65535, r, false);
+    let next = put4(b, end, 0);
+    finish(b, next, 1, end)
+}
+
 // Overwrites the code in the first column of a row of such a table, of 16 columns.
 pub fn recode(b: &mut [u8], row: u32, code: u32) {
     put4(b, 8 + 66 * row as usize, code);
 }
 
-// A row of n columns, with the code 0 in the members of a set, and in the others its position, a code that no other row
-// has.
-fn marked(b: &mut [u8], at: usize, n: u32, set: ColumnSet) -> usize {
-    let own = offset(at);
+// A row of n columns, with the code 0 in the members of a set, and another in the others.
+fn coded(b: &mut [u8], at: usize, n: u32, set: ColumnSet, own: u32) -> usize {
     let mut next = put2(b, at, 65535);
     let mut k = 0;
     while k < n {
@@ -89,24 +94,37 @@ fn marked(b: &mut [u8], at: usize, n: u32, set: ColumnSet) -> usize {
     next
 }
 
-// Such a row for the set without column k, if that is a member.
-fn spared(b: &mut [u8], at: usize, n: u32, set: ColumnSet, k: u32) -> usize {
+// Such a row, or two equal ones, whose other code is its position, which no other row has.
+fn marked(b: &mut [u8], at: usize, n: u32, set: ColumnSet, twice: bool) -> usize {
+    let own = offset(at);
+    let next = coded(b, at, n, set, own);
+    if twice {
+        return coded(b, next, n, set, own);
+    }
+    next
+}
+
+// The same for the set without column k, if that is a member.
+fn spared(b: &mut [u8], at: usize, n: u32, set: ColumnSet, k: u32, twice: bool) -> usize {
     if set.member(k) {
-        return marked(b, at, n, set.without(k));
+        return marked(b, at, n, set.without(k), twice);
     }
     at
 }
 
 // One table of n columns, in which a set has entries: a row with the code 0 in the set alone, and for each member one
-// with it in the others alone. The set is a key; with a member less it is none, and gives no column that the set lacks.
-pub fn keyed(b: &mut [u8], n: u32, set: ColumnSet) -> usize {
+// with it in the others alone, each once or twice. The set gives every column that it lacks, and with a member less
+// none of them. With each row once it is a key, with a member less it is none; with each row twice there is no key.
+pub fn keyed(b: &mut [u8], n: u32, set: ColumnSet, twice: bool) -> usize {
     let mut next = put2(b, 0, n);
     next = put2(b, next, 65535);
-    next = put2(b, next, set.size() % 65536 + 1);
-    next = marked(b, next, n, set);
+    let count = set.size() % 4096 + 1;
+    let rows = if twice { 2 * count } else { count };
+    next = put2(b, next, rows);
+    next = marked(b, next, n, set, twice);
     let mut k = 0;
     while k < n {
-        next = spared(b, next, n, set, k);
+        next = spared(b, next, n, set, k, twice);
         k += 1;
     }
     let end = next;

@@ -13,6 +13,7 @@ use trial_kit::EMPTY;
 use trial_kit::LONE;
 use trial_kit::MISSING_TWICE;
 use trial_kit::THREE;
+use trial_kit::TWO_KEYS;
 
 // The whole listing, at the least and at the largest budget.
 fn whole() {
@@ -52,13 +53,21 @@ fn runs() {
     trial(b"run of 4", &ALBUM, 0, 10, 4);
 }
 
-// Cells that are missing: what K7 says is listed, and K8's key is not, in a call for all sets and in one for its set.
-// Of three tables in a line, whose root has a missing cell, all that is listed.
+// Cells that are missing: K7's row has a key that is listed, and K8's key is not, in a call for all sets and in one for
+// its set. Of three tables in a line, whose root has a missing cell, all that is listed.
 fn missing() {
     trial(b"K7", &LONE, 0, 2, 2);
     trial(b"K8", &MISSING_TWICE, 0, 2, 2);
     trial(b"K8, budget 1", &MISSING_TWICE, 1, 1, 2);
     trial(b"three tables", &THREE, 0, 4294967295, 64);
+}
+
+// Keys, which stand for what they give: two keys, in a call for all sets and in calls for the sets of each.
+fn keys() {
+    trial(b"two keys", &TWO_KEYS, 0, 8, 8);
+    trial(b"two keys, the first", &TWO_KEYS, 1, 1, 8);
+    trial(b"two keys, the second", &TWO_KEYS, 6, 1, 8);
+    trial(b"two keys, all columns", &TWO_KEYS, 7, 1, 8);
 }
 
 // Work words around the bound, and which ground comes first.
@@ -79,6 +88,7 @@ fn main() {
     budgets();
     runs();
     missing();
+    keys();
     grounds();
     trial_sizes();
     trial_steps();

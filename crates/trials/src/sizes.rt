@@ -3,6 +3,7 @@ use crate::print::trial;
 use model::CheckAnswer;
 use trial_kit::deep;
 use trial_kit::end;
+use trial_kit::equal;
 use trial_kit::flat;
 use trial_kit::print_count;
 use trial_kit::print_refusal;
@@ -65,12 +66,16 @@ fn wide(bytes: &mut [u8]) {
     trial_front(b"16 columns, place 65537", bytes, n, 65537, 1, 17);
 }
 
-// One row: the empty set has every right, 17 entries. They fit, or miss by one.
+// Two equal rows: the empty set gives every column, 16 entries, the most that a set has. They fit, or miss by one. One
+// row: the empty set is a key, which is one entry.
 fn fit(bytes: &mut [u8]) {
-    let n = flat(bytes, 16, 1);
-    trial_front(b"17 entries, run of 17", bytes, n, 0, 2, 17);
-    trial_front(b"17 entries, run of 16", bytes, n, 0, 2, 16);
-    trial_front(b"17 entries, run of 16, budget 0", bytes, n, 0, 0, 16);
+    let mut n = equal(bytes, 16, 2);
+    trial_front(b"16 entries, run of 16", bytes, n, 0, 2, 16);
+    trial_front(b"16 entries, run of 15", bytes, n, 0, 2, 15);
+    trial_front(b"16 entries, run of 15, budget 0", bytes, n, 0, 0, 15);
+    n = flat(bytes, 16, 1);
+    trial_front(b"16 columns, one row", bytes, n, 0, 65536, 17);
+    trial_front(b"16 columns, one row, budget 1", bytes, n, 0, 1, 17);
 }
 
 // Tables without rows, of one column (K6) and of 16: they have their sets, and list nothing.

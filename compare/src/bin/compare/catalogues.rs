@@ -2,7 +2,7 @@
 //! dependency.
 
 use crate::trial::{negative, same, Outcome, Trial};
-use crate::{listings, packed, pairs, questions, supplied, withheld};
+use crate::{dropped, listings, packed, pairs, questions, supplied, withheld};
 use compare::ffi;
 use compare::lent::{Numbers, Placed};
 use compare::random;
@@ -42,6 +42,7 @@ fn sound(trial: &mut Trial, file: &[u8]) -> Result<Vec<Entry>, String> {
     listings::steps(trial, &placed, &listing, true)?;
     listings::any_calls(trial, &placed, &listing)?;
     withheld::run(trial, &placed, &catalogue, &listing, 1)?;
+    dropped::run(trial, &placed, &catalogue, &listing, 1)?;
     let entries = listing.concat();
     packed::listing(trial, file, &entries)?;
     same(|| "the catalogue after all calls".into(), placed.file(), file)?;

@@ -6,8 +6,8 @@ use compare::random::{self, Layout, Random};
 use compare::simple::{self, Catalogue, Entry, Table, COLUMNS, ROW, ROWS, TABLES};
 use compare::table;
 
-/// A catalogue, a list behind bytes of the caller, and evidence; and the entries that the list lacks since no row backs
-/// them.
+/// A catalogue, a list behind bytes of the caller, and evidence; and the minimal ones that the list lacks, since no row
+/// backs them or since their left side is a key.
 #[derive(Clone)]
 pub struct Supply {
     pub layout: Layout,
@@ -16,6 +16,7 @@ pub struct Supply {
     pub entries: Vec<Entry>,
     pub records: Vec<Record>,
     pub withheld: Vec<Entry>,
+    pub dropped: Vec<Entry>,
 }
 
 /// The three files that the check is lent.
@@ -31,8 +32,8 @@ impl Supply {
     pub fn of(layout: Layout) -> Supply {
         let catalogue = simple::check(&layout.file).expect("a sound catalogue");
         let (entries, records) = (table::listing(&catalogue), table::evidence(&catalogue, Failing::Backed));
-        let withheld = table::withheld(&catalogue);
-        Supply { layout, catalogue, front: Vec::new(), entries, records, withheld }
+        let (withheld, dropped) = (table::withheld(&catalogue), table::dropped(&catalogue));
+        Supply { layout, catalogue, front: Vec::new(), entries, records, withheld, dropped }
     }
 
     pub fn files(&self) -> Files {
@@ -68,6 +69,35 @@ impl Supply {
         supply
     }
 
+    /// The keys that are listed.
+    pub fn keys(&self) -> Vec<Entry> {
+        self.entries.iter().filter(|entry| entry.right as u32 == ROW).copied().collect()
+    }
+
+    /// The keys of which another table's lies inside.
+    pub fn keys_around_others(&self) -> Vec<Entry> {
+        let keys = self.keys();
+        let inside = |key: &Entry, other: &Entry| other.target != key.target && other.left & !key.left == 0;
+        keys.iter().filter(|key| keys.iter().any(|other| inside(key, other))).copied().collect()
+    }
+
+    /// The same without a key, the entries dropped for it in its place or not.
+    pub fn without_key(&self, key: Entry, columns: bool) -> Supply {
+        let mut supply = self.clone();
+        supply.entries.retain(|entry| *entry != key);
+        let for_key = |entry: &&Entry| columns && (entry.target, entry.left) == (key.target, key.left);
+        supply.entries.extend(self.dropped.iter().filter(for_key));
+        supply.put_in_order();
+        supply
+    }
+
+    /// The same with an entry more: one that is dropped for its key, with a column to spare if there is one. It holds,
+    /// and its left is the key or contains it.
+    pub fn with_above(&self, random: &mut Random, dropped: Entry) -> Supply {
+        let more = full(self.columns(dropped.target)) & outside(dropped.right) & !dropped.left;
+        self.with_entry(Entry { left: dropped.left | member(random, more), ..dropped })
+    }
+
     /// The same with a record of each set with a column less in the place of a record: its set alone lies inside none
     /// any more, if it lay inside that record alone.
     pub fn lowered(&self, i: usize) -> Supply {
@@ -98,14 +128,26 @@ impl Supply {
 /// Alters a supply; the second one is of another catalogue.
 type Damage = fn(&mut Random, &mut Supply, &Supply);
 
-const DAMAGES: [Damage; 34] = [
+const DAMAGES: [Damage; 47] = [
     drop_entry,
     drop_all_entries,
     add_entry,
     add_withheld,
     exchange_withheld,
+    add_dropped,
+    add_dropped,
+    add_all_dropped,
+    add_above_dropped,
+    add_above_dropped,
+    drop_key,
+    drop_all_keys,
+    columns_for_key,
+    column_as_key,
+    key_of_another_target,
+    key_for_all,
     double_entry,
     exchange_entries,
+    spare_column,
     spare_column,
     column_less,
     unknown_target_of_entry,
@@ -115,6 +157,7 @@ const DAMAGES: [Damage; 34] = [
     other_list_beside,
     drop_record,
     drop_unbacked_records,
+    drop_records_of_right,
     repeat_record,
     shuffle_records,
     reverse_rows,
@@ -235,6 +278,87 @@ fn exchange_withheld(random: &mut Random, supply: &mut Supply, other: &Supply) {
     add_withheld(random, supply, other);
 }
 
+/// An entry that is dropped for its key: minimal and backed.
+fn add_dropped(random: &mut Random, supply: &mut Supply, _: &Supply) {
+    let Some(i) = any(random, &supply.dropped) else { return };
+    *supply = supply.with_entry(supply.dropped[i]);
+}
+
+/// All of them: then every minimal one is listed that a row backs.
+fn add_all_dropped(_: &mut Random, supply: &mut Supply, _: &Supply) {
+    supply.entries.extend(&supply.dropped);
+    supply.put_in_order();
+}
+
+/// One of them with a column to spare.
+fn add_above_dropped(random: &mut Random, supply: &mut Supply, _: &Supply) {
+    let Some(i) = any(random, &supply.dropped) else { return };
+    *supply = supply.with_above(random, supply.dropped[i]);
+}
+
+/// Any key, or one of which a key of another table lies inside.
+fn drop_key(random: &mut Random, supply: &mut Supply, _: &Supply) {
+    let around = supply.keys_around_others();
+    let keys = if random.once_in(2) && !around.is_empty() { around } else { supply.keys() };
+    let Some(i) = any(random, &keys) else { return };
+    *supply = supply.without_key(keys[i], false);
+}
+
+/// All keys of a table, or of all.
+fn drop_all_keys(random: &mut Random, supply: &mut Supply, _: &Supply) {
+    let (target, all) = (random.below(supply.catalogue.tables.len()) as u8, random.once_in(4));
+    supply.entries.retain(|entry| entry.right as u32 != ROW || !(all || entry.target == target));
+}
+
+/// The entries dropped for a key in its place.
+fn columns_for_key(random: &mut Random, supply: &mut Supply, _: &Supply) {
+    let of_columns =
+        |key: &Entry| supply.dropped.iter().any(|entry| (entry.target, entry.left) == (key.target, key.left));
+    let keys: Vec<Entry> = supply.keys().into_iter().filter(of_columns).collect();
+    let Some(i) = any(random, &keys) else { return };
+    *supply = supply.without_key(keys[i], true);
+}
+
+/// The left side of a column's entry as a key, by itself or with a column less or more.
+fn column_as_key(random: &mut Random, supply: &mut Supply, _: &Supply) {
+    let columns: Vec<usize> = (0..supply.entries.len()).filter(|i| supply.entries[*i].right as u32 != ROW).collect();
+    let Some(i) = any(random, &columns) else { return };
+    let entry = supply.entries[columns[i]];
+    let left = match random.below(3) {
+        0 => less(random, entry.left),
+        1 => entry.left,
+        _ => entry.left | member(random, full(supply.columns(entry.target)) & !entry.left),
+    };
+    supply.place(random, columns[i], Entry { right: ROW as u8, left, ..entry });
+}
+
+/// A key as one of another table.
+fn key_of_another_target(random: &mut Random, supply: &mut Supply, _: &Supply) {
+    let keys: Vec<usize> = (0..supply.entries.len()).filter(|i| supply.entries[*i].right as u32 == ROW).collect();
+    let Some(i) = any(random, &keys) else { return };
+    let target = random.below(supply.catalogue.tables.len()) as u8;
+    supply.place(random, keys[i], Entry { target, ..supply.entries[keys[i]] });
+}
+
+/// One small key in the place of all entries of a table, and none of its records.
+fn key_for_all(random: &mut Random, supply: &mut Supply, _: &Supply) {
+    let target = random.below(supply.catalogue.tables.len()) as u8;
+    let left = random.pick(&[0, 0, 1, 2]) & full(supply.columns(target));
+    supply.entries.retain(|entry| entry.target != target);
+    supply.records.retain(|record| record.target != target);
+    *supply = supply.with_entry(Entry { target, right: ROW as u8, left });
+}
+
+/// The set of so many columns.
+fn full(columns: usize) -> u16 {
+    ((1u32 << columns) - 1) as u16
+}
+
+/// A set of one member of a set; the empty set of that.
+fn member(random: &mut Random, set: u16) -> u16 {
+    set & !less(random, set)
+}
+
 /// All columns but the right.
 fn outside(right: u8) -> u16 {
     if (right as usize) < COLUMNS {
@@ -339,6 +463,13 @@ fn drop_unbacked_records(_: &mut Random, supply: &mut Supply, _: &Supply) {
     records.retain(|Record { target, set, .. }| {
         !known(*target as usize) || simple::backed(catalogue, *target as usize, *set as u32)
     });
+}
+
+/// All records of a target and right.
+fn drop_records_of_right(random: &mut Random, supply: &mut Supply, _: &Supply) {
+    let Some(i) = any(random, &supply.records) else { return };
+    let Record { target, right, .. } = supply.records[i];
+    supply.records.retain(|record| (record.target, record.right) != (target, right));
 }
 
 fn repeat_record(random: &mut Random, supply: &mut Supply, _: &Supply) {

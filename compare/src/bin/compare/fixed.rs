@@ -1,20 +1,20 @@
 //! Fixed cases before the random ones: the album, its packed list and its evidence throughout, small catalogues with
-//! their evidence, small ones with missing cells throughout, wide ones with missing cells, catalogues at and past the
-//! bounds, and large ones that are made to break a dependency.
+//! their evidence, the named ones throughout, wide ones with missing cells and wide ones with known keys, catalogues at
+//! and past the bounds, and large ones that are made to break a dependency.
 
 use crate::catalogues::{check, damaged};
 use crate::trial::{Outcome, Trial, MANY_WORDS};
-use crate::{listings, packed, pairs, questions, supplied, withheld};
+use crate::{dropped, listings, packed, pairs, questions, supplied, withheld};
 use compare::lent::Placed;
 use compare::random::{album, Draft, DraftTable, Layout, Random};
 use compare::simple::{self, Entry, COLUMNS, MISSING, NO_PARENT, ROW, ROWS, WORK_WORDS};
-use compare::unfilled;
+use compare::{keyed, named, unfilled};
 
 /// So many lists with a damage are checked by evidence on each catalogue at the bounds.
 const SUPPLIED: usize = 16;
-/// The same on each wide catalogue with missing cells, and so many of its withheld entries are listed around.
+/// The same on each wide catalogue, and so many of its withheld entries and of its dropped ones are listed around.
 const WIDE_SUPPLIED: usize = 4;
-const WITHHELD: usize = 20;
+const AROUND: usize = 20;
 
 pub fn run(trial: &mut Trial) -> Outcome {
     throughout(trial, &album().file())?;
@@ -24,13 +24,13 @@ pub fn run(trial: &mut Trial) -> Outcome {
     for (columns, rows) in [(0, 0), (0, 2), (1, 1), (1, 2), (4, 3), (5, 4), (6, 4)] {
         supplied::every(trial, flat_draft(columns, rows).layout())?;
     }
-    for catalogue in unfilled::small() {
+    for catalogue in named::all() {
         let layout = catalogue.draft.layout();
         let named = |difference: String| format!("{}: {difference}", catalogue.name);
         throughout(trial, &layout.file).map_err(named)?;
         supplied::every(trial, layout).map_err(named)?;
     }
-    wide_unfilled(trial)?;
+    wide_named(trial)?;
     for (columns, rows) in [(16, 0), (16, 1), (16, 3), (17, 1), (0, ROWS), (0, ROWS + 1), (2, ROWS), (2, ROWS + 1)] {
         flat(trial, columns, rows)?;
     }
@@ -49,16 +49,22 @@ fn throughout(trial: &mut Trial, file: &[u8]) -> Outcome {
     let listing = simple::full_listing(&catalogue);
     listings::every(trial, &placed, &listing, 4, &[WORK_WORDS - 1, WORK_WORDS, MANY_WORDS])?;
     withheld::run(trial, &placed, &catalogue, &listing, 1)?;
+    dropped::run(trial, &placed, &catalogue, &listing, 1)?;
     packed::listing(trial, file, &listing.concat())
 }
 
-/// Tables of 14 to 16 visible columns with missing cells: with few words the library lists 14 columns by its table and
-/// more by planes. Lists of the widest are checked by evidence.
-fn wide_unfilled(trial: &mut Trial) -> Outcome {
+/// Tables of 14 to 16 visible columns with missing cells, or with known keys: with few words the library lists 14
+/// columns by its table and more by planes. Lists of the widest are checked by evidence.
+fn wide_named(trial: &mut Trial) -> Outcome {
     for columns in [14, 15, 16] {
+        let flat = |table: DraftTable| Draft { tables: vec![table] };
+        let (gap, whole) = (flat(unfilled::but_one(columns, false)), flat(unfilled::but_one(columns, true)));
+        let (once, twice) = (flat(keyed::one_each(columns, false)), flat(keyed::one_each(columns, true)));
         for (name, draft, listing) in [
-            ("all cells but one", but_one(columns, false), Some(but_one_listing(columns, false))),
-            ("all cells but one, and a whole row", but_one(columns, true), Some(but_one_listing(columns, true))),
+            ("all cells but one", gap, Some(but_one_listing(columns, false))),
+            ("all cells but one, and a whole row", whole, Some(but_one_listing(columns, true))),
+            ("keys of all columns but one", once, Some(one_each_listing(columns, false))),
+            ("all columns but one, and rows that stand twice", twice, Some(one_each_listing(columns, true))),
             ("cells in one half of the columns", unfilled::halves(columns, 24), None),
             ("rows above without cells", unfilled::rows_above(&[(3, 6), (4, 8), (4, 12), (columns - 11, 24)]), None),
         ] {
@@ -73,11 +79,8 @@ fn wide_unfilled(trial: &mut Trial) -> Outcome {
     Ok(())
 }
 
-fn but_one(columns: usize, whole: bool) -> Draft {
-    Draft { tables: vec![unfilled::but_one(columns, whole)] }
-}
-
-/// Its full listing, told by how it is made: the full set is the only key, and only a whole row backs it.
+/// The full listing of a table with all cells but one, told by how it is made: the full set is the only key, and only a
+/// whole row backs it.
 fn but_one_listing(columns: usize, whole: bool) -> Vec<Vec<Entry>> {
     let full = (1 << columns) - 1;
     let mut listing = vec![Vec::new(); full + 1];
@@ -87,8 +90,21 @@ fn but_one_listing(columns: usize, whole: bool) -> Vec<Vec<Entry>> {
     listing
 }
 
-/// The whole listing at one go and in steps, and calls around the sets of withheld entries. A listing that is not told
-/// is made by the simple implementation.
+/// That of a table with a 1 in each row: the sets with a column less than all stand before the full one. Each is a key,
+/// or where rows stand twice gives its column.
+fn one_each_listing(columns: usize, twice: bool) -> Vec<Vec<Entry>> {
+    let full = (1 << columns) - 1;
+    let mut listing = vec![Vec::new(); full + 1];
+    for column in 0..columns {
+        let right = if twice { column as u8 } else { ROW as u8 };
+        let left = full & !(1 << column);
+        listing[full - 1 - column].push(Entry { target: 0, right, left: left as u16 });
+    }
+    listing
+}
+
+/// The whole listing at one go and in steps, and calls around the sets of entries that are not listed. A listing that
+/// is not told is made by the simple implementation.
 fn wide_listing(trial: &mut Trial, file: &[u8], listing: Option<Vec<Vec<Entry>>>) -> Outcome {
     trial.file = file.to_vec();
     let placed = Placed::new(file, &mut trial.random);
@@ -97,7 +113,8 @@ fn wide_listing(trial: &mut Trial, file: &[u8], listing: Option<Vec<Vec<Entry>>>
     listings::one_go(trial, &placed, &listing)?;
     listings::steps(trial, &placed, &listing, false)?;
     listings::steps(trial, &placed, &listing, true)?;
-    withheld::run(trial, &placed, &catalogue, &listing, WITHHELD)?;
+    withheld::run(trial, &placed, &catalogue, &listing, AROUND)?;
+    dropped::run(trial, &placed, &catalogue, &listing, AROUND)?;
     packed::listing(trial, file, &listing.concat())
 }
 

@@ -3,7 +3,7 @@
 use crate::trial::{expect, negative, same, Outcome, Trial};
 use compare::ffi;
 use compare::lent::{Numbers, Placed};
-use compare::simple::{self, Answer, Entry, Refusal, COLUMNS, WORK_WORDS};
+use compare::simple::{self, Answer, Catalogue, Entry, Refusal, COLUMNS, WORK_WORDS};
 
 /// After so many steps a listing is ended by larger ones.
 const STEPS: usize = 40;
@@ -117,13 +117,20 @@ pub fn any_calls(trial: &mut Trial, placed: &Placed, listing: &[Vec<Entry>]) -> 
     Ok(())
 }
 
+/// How many sets stand before a left side.
+pub fn place(catalogue: &Catalogue, target: usize, left: u32) -> u32 {
+    let before: u32 = catalogue.tables[..target].iter().map(|table| 1 << table.visible.len()).sum();
+    let sides = simple::left_sides(catalogue.tables[target].visible.len());
+    before + sides.iter().take_while(|side| **side != left).count() as u32
+}
+
 /// A call of budget 1 from a place, and of a few sets from it and from the one before, with few words and with many: by
-/// every way of the library. The run has no record or enough of them.
+/// every way of the library. The run has no record, one, or enough of them.
 pub fn near(trial: &mut Trial, placed: &Placed, listing: &[Vec<Entry>], place: u32) -> Outcome {
     let before = place.saturating_sub(1);
     for (place, budget, many) in [(place, 1, false), (place, 2, false), (before, 3, true)] {
         let words = if many { trial.many_words() } else { trial.few_words() };
-        let records = trial.random.pick(&[0, 3 * (COLUMNS + 1)]);
+        let records = trial.random.pick(&[0, 1, 3 * (COLUMNS + 1)]);
         let _ = compare(trial, placed, Ok(listing), Call { place, budget, records, words })?;
     }
     Ok(())

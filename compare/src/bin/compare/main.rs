@@ -8,6 +8,7 @@
 
 mod catalogues;
 mod damages;
+mod dropped;
 mod fixed;
 mod listings;
 mod packed;
@@ -53,7 +54,7 @@ fn main() {
     let complete = count >= 1_000;
     trial.seen.print();
     if complete && !trial.seen.all() {
-        println!("some refusal or answer never occurred, or some left side or check by evidence too seldom");
+        println!("some refusal or answer never occurred, or some kind of entry or check by evidence too seldom");
         exit(1);
     }
     println!("{count} catalogues from seed {first}, no difference, {:.1} s", start.elapsed().as_secs_f64());

@@ -2,13 +2,13 @@
 
 use crate::damages::{self, Files, Supply};
 use crate::trial::{
-    expect, hex, negative, same, Outcome, Trial, ENTRY_AND_SET, LIST_AND_RECORD, RECORD_AND_ENTRY, REFUSED_CATALOGUE,
-    UNBACKED_OPEN,
+    expect, hex, negative, same, Outcome, Trial, COLUMNS_FOR_KEY, ENTRY_AND_SET, KEY_ALONE, LIST_AND_RECORD,
+    OTHER_KEY_COVERS, OTHER_KEY_INSIDE, RECORD_AND_ENTRY, REFUSED_CATALOGUE, UNBACKED_OPEN,
 };
-use compare::evidence::Failing;
+use compare::evidence::{Failing, Record};
 use compare::lent::Placed;
 use compare::random::{self, Layout};
-use compare::simple::{self, Entry, Refusal};
+use compare::simple::{self, Catalogue, Entry, Refusal, ROW};
 use compare::{evidence, ffi, table};
 
 /// How many lists with one damage, and with several, are made from each catalogue.
@@ -28,8 +28,9 @@ pub fn run(trial: &mut Trial, layout: &Layout, listing: Vec<Entry>) -> Outcome {
     let plain = catalogue.sets() <= PLAIN_SETS;
     let of = Failing::Backed;
     let records = if plain { evidence::records(&catalogue, of) } else { table::evidence(&catalogue, of) };
-    let withheld = table::withheld(&catalogue);
-    let supply = Supply { layout: layout.clone(), catalogue, front: Vec::new(), entries: listing, records, withheld };
+    let (withheld, dropped) = (table::withheld(&catalogue), table::dropped(&catalogue));
+    let (layout, front) = (layout.clone(), Vec::new());
+    let supply = Supply { layout, catalogue, front, entries: listing, records, withheld, dropped };
     let more = of_all_sets(&supply);
     let other = Supply::of(random::small_draft(&mut trial.random, 5, 6).layout());
     exact(trial, &supply, &more)?;
@@ -46,11 +47,25 @@ pub fn run(trial: &mut Trial, layout: &Layout, listing: Vec<Entry>) -> Outcome {
 }
 
 /// Lists of which it is known whether they are accepted: the full listing with records for the backed sets and with
-/// those for all, if they are others; an entry more that no row backs; a record lowered.
+/// those for all, if they are others; an entry more that no row backs, or that repeats a key, also with a column to
+/// spare; a key less, the entries that repeat it in its place or not; a record lowered.
 fn exact(trial: &mut Trial, supply: &Supply, more: &Supply) -> Outcome {
-    if !supply.withheld.is_empty() {
-        let entry = trial.random.pick(&supply.withheld);
-        refused(trial, &supply.with_entry(entry), Refusal::UnsoundEntry)?;
+    for unlisted in [&supply.withheld, &supply.dropped] {
+        if !unlisted.is_empty() {
+            let entry = trial.random.pick(unlisted);
+            refused(trial, &supply.with_entry(entry), Refusal::UnsoundEntry)?;
+        }
+    }
+    if !supply.dropped.is_empty() {
+        let entry = trial.random.pick(&supply.dropped);
+        let above = supply.with_above(&mut trial.random, entry);
+        refused(trial, &above, Refusal::UnsoundEntry)?;
+    }
+    for (keys, columns) in [(supply.keys(), true), (supply.keys_around_others(), false)] {
+        if !keys.is_empty() {
+            let key = trial.random.pick(&keys);
+            refused(trial, &supply.without_key(key, columns), Refusal::UncoveredSet)?;
+        }
     }
     let others = (0..more.records.len()).any(|i| !more.is_backed(i));
     for supply in [supply, more].into_iter().take(1 + others as usize) {
@@ -111,7 +126,12 @@ fn answered(trial: &mut Trial, files: &Files) -> Result<Result<u64, Refusal>, St
     same(call, reply, expected)?;
     expect([cat, list, records] == lent.map(Vec::as_slice), call, "a file was altered")?;
     match answer {
-        Ok(_) => trial.seen.verified(0, if has_unbacked_open(files) { UNBACKED_OPEN } else { "" }),
+        Ok(_) => {
+            trial.seen.verified(0, if has_unbacked_open(files) { UNBACKED_OPEN } else { "" });
+            if has_other_key_inside(files) {
+                trial.seen.also(OTHER_KEY_INSIDE);
+            }
+        }
         Err(refusal) => {
             let (ground, also) = grounds(files);
             trial.seen.refusal(refusal);
@@ -128,8 +148,16 @@ fn has_unbacked_open(files: &Files) -> bool {
     evidence::first_uncovered(&catalogue, &list.entries, &evidence::read(&files.evidence).0, false).is_some()
 }
 
+/// Whether a column entry's left contains a key that is listed for another table.
+fn has_other_key_inside(files: &Files) -> bool {
+    let Ok(list) = simple::open(&files.list) else { return false };
+    let (keys, columns): (Vec<Entry>, Vec<Entry>) = list.entries.iter().partition(|entry| entry.right as u32 == ROW);
+    let contains = |entry: &Entry, key: &Entry| key.target != entry.target && key.left & !entry.left == 0;
+    columns.iter().any(|entry| keys.iter().any(|key| contains(entry, key)))
+}
+
 /// The ground of 17, 18 or 19 that the first such record, entry or set has; and that the catalogue is refused, or that
-/// the files have a ground of the next kind too.
+/// the files have a ground of the next kind too, or what a listed key has to do with it.
 fn grounds(files: &Files) -> (&'static str, Option<&'static str>) {
     let Ok(catalogue) = simple::check(&files.cat) else { return ("", Some(REFUSED_CATALOGUE)) };
     let fault = evidence::first_fault(&catalogue, &files.evidence);
@@ -140,17 +168,42 @@ fn grounds(files: &Files) -> (&'static str, Option<&'static str>) {
     }
     let (records, _) = evidence::read(&files.evidence);
     let gap = evidence::first_gap(&catalogue, &list.entries, &records);
-    match flaw() {
-        Some(flaw) => (flaw, gap.map(|_| ENTRY_AND_SET)),
-        None => (gap.unwrap_or(""), None),
+    match (flaw(), gap) {
+        (Some(flaw), Some(_)) => (flaw, Some(ENTRY_AND_SET)),
+        (Some(flaw), None) => (flaw, key_alone(&catalogue, &list.entries)),
+        (None, Some(gap)) => (gap, key_lacking(&catalogue, &list.entries, &records)),
+        (None, None) => ("", None),
     }
+}
+
+/// Whether each entry that is refused is so for a listed key.
+fn key_alone(catalogue: &Catalogue, entries: &[Entry]) -> Option<&'static str> {
+    let mut flaws = entries.iter().filter_map(|entry| evidence::flaw(catalogue, entries, entry));
+    let for_key = |flaw: &str| ["its left is a listed key", "contains a listed key"].contains(&flaw);
+    flaws.all(for_key).then_some(KEY_ALONE)
+}
+
+/// Whether the first set is uncovered for the row while it is listed for a column; or none were uncovered if each key
+/// stood for all tables.
+fn key_lacking(catalogue: &Catalogue, entries: &[Entry], records: &[Record]) -> Option<&'static str> {
+    let (target, right, set) = evidence::first_uncovered(catalogue, entries, records, true)?;
+    let listed = |entry: &Entry| (entry.target as usize, entry.left as u32) == (target, set);
+    if right == ROW && simple::key(catalogue, target, set) && entries.iter().any(listed) {
+        return Some(COLUMNS_FOR_KEY);
+    }
+    let mut everywhere = entries.to_vec();
+    for key in entries.iter().filter(|entry| entry.right as u32 == ROW) {
+        everywhere.extend((0..catalogue.tables.len() as u8).map(|target| Entry { target, ..*key }));
+    }
+    let uncovered = evidence::first_uncovered(catalogue, &everywhere, records, true);
+    uncovered.is_none().then_some(OTHER_KEY_COVERS)
 }
 
 // ---- Fixed cases ----
 
-/// A small catalogue throughout: with each record and each entry dropped and repeated, each record lowered, and each
-/// withheld entry added; with each of the three files cut at every length, lengthened, and with each of its bytes
-/// altered.
+/// A small catalogue throughout: with each record and each entry taken out and repeated, each record lowered, each
+/// withheld and each dropped entry added, and the entries dropped for each key in its place; with each of the three
+/// files cut at every length, lengthened, and with each of its bytes altered.
 pub fn every(trial: &mut Trial, layout: Layout) -> Outcome {
     let supply = Supply::of(layout);
     let more = of_all_sets(&supply);
@@ -174,9 +227,13 @@ pub fn every(trial: &mut Trial, layout: Layout) -> Outcome {
         other.entries.extend([entry, entry]);
         compare(trial, &other.files())?;
     }
-    for entry in &supply.withheld {
+    for entry in supply.withheld.iter().chain(&supply.dropped) {
         refused(trial, &supply.with_entry(*entry), Refusal::UnsoundEntry)?;
         refused(trial, &more.with_entry(*entry), Refusal::UnsoundEntry)?;
+    }
+    for key in supply.keys() {
+        refused(trial, &supply.without_key(key, true), Refusal::UncoveredSet)?;
+        refused(trial, &more.without_key(key, true), Refusal::UncoveredSet)?;
     }
     let files = supply.files();
     for list in damages::every(&files.list) {
@@ -191,8 +248,8 @@ pub fn every(trial: &mut Trial, layout: Layout) -> Outcome {
     Ok(())
 }
 
-/// A large catalogue: the full listing with its evidence, for the backed sets and for all; with a withheld entry, with
-/// a record lowered, and so many with a damage.
+/// A large catalogue: the full listing with its evidence, for the backed sets and for all; with a withheld or a dropped
+/// entry, without a key, with a record lowered, and so many with a damage.
 pub fn large(trial: &mut Trial, layout: Layout, damaged: usize) -> Outcome {
     let supply = Supply::of(layout);
     let more = of_all_sets(&supply);

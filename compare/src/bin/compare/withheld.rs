@@ -12,7 +12,7 @@ const LOOKED_AT: usize = 500;
 /// Some of a catalogue's, asked for and listed around.
 pub fn run(trial: &mut Trial, placed: &Placed, catalogue: &Catalogue, listing: &[Vec<Entry>], count: usize) -> Outcome {
     let withheld = table::withheld(catalogue);
-    kinds(catalogue, &withheld, listing).into_iter().for_each(|kind| trial.seen.backing(kind));
+    kinds(catalogue, &withheld, listing).into_iter().for_each(|kind| trial.seen.kind(kind));
     if withheld.is_empty() {
         return Ok(());
     }
@@ -22,16 +22,9 @@ pub fn run(trial: &mut Trial, placed: &Placed, catalogue: &Catalogue, listing: &
         let unbacked = simple::minimal(catalogue, target, left, right) && !simple::backed(catalogue, target, left);
         expect(unbacked, || format!("the table: {entry:?}"), "it is not minimal, or backed")?;
         questions::one(trial, placed, catalogue, target as u32, left, right)?;
-        listings::near(trial, placed, listing, place(catalogue, target, left))?;
+        listings::near(trial, placed, listing, listings::place(catalogue, target, left))?;
     }
     Ok(())
-}
-
-/// How many sets stand before a left side.
-fn place(catalogue: &Catalogue, target: usize, left: u32) -> u32 {
-    let before: u32 = catalogue.tables[..target].iter().map(|table| 1 << table.visible.len()).sum();
-    let sides = simple::left_sides(catalogue.tables[target].visible.len());
-    before + sides.iter().take_while(|side| **side != left).count() as u32
 }
 
 /// Which kinds of left sides a catalogue has, by what backs them or would.

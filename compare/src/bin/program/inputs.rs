@@ -2,7 +2,7 @@
 //! entries.
 
 use compare::random::{Draft, DraftTable, Random};
-use compare::simple::{COLUMNS, MISSING, NO_PARENT, TABLES};
+use compare::simple::{COLUMNS, NO_PARENT, TABLES};
 
 /// A sound catalogue of so many bytes, an even number from about 100 to 40,000: a root without columns and below it
 /// a table of so many columns, from 2 to 16. Every sound catalogue has an even number of bytes.
@@ -33,21 +33,26 @@ fn crowded(random: &mut Random, tables: usize, rows: usize) -> Draft {
     draft
 }
 
-/// A catalogue with 197,076 entries.
+/// A catalogue with 177,637 entries. In each crowded table the first row stands at the end again: no left side is a
+/// key, so that none stands for a column.
 pub fn most() -> Vec<u8> {
-    crowded(&mut Random::new(1), TABLES - 1, 32).file()
+    let mut draft = crowded(&mut Random::new(1), TABLES - 1, 31);
+    for table in &mut draft.tables[1..] {
+        table.rows.push(table.rows[0].clone());
+    }
+    draft.file()
 }
 
-/// A catalogue with so many entries, from 65,417 to 65,545: 65,409 of seven tables and the root, and the rest of
-/// eight tables of one row, each of which lists its own columns and the row, with the empty left side; its cells are
-/// missing.
+/// A catalogue with so many entries, from 65,438 to 65,566: 65,438 of seven tables, among them their keys, and the
+/// root, and the rest of eight tables of two equal rows, each of which lists its own columns with the empty left side
+/// and has no key.
 pub fn with_entries(entries: usize) -> Vec<u8> {
-    let mut draft = crowded(&mut Random::new(54), 7, 22);
-    let mut left = entries - 65_409;
-    for tables in (0..8).rev() {
-        let here = (left - tables).min(COLUMNS + 1);
-        left -= here;
-        draft.tables.push(DraftTable { columns: here - 1, parent: 0, rows: vec![(0, vec![MISSING; here - 1])] });
+    let mut draft = crowded(&mut Random::new(8), 7, 52);
+    let mut left = entries - 65_438;
+    for _ in 0..8 {
+        let columns = left.min(COLUMNS);
+        left -= columns;
+        draft.tables.push(DraftTable { columns, parent: 0, rows: vec![(0, vec![7; columns]); 2] });
     }
     draft.file()
 }

@@ -12,7 +12,7 @@ mod inputs;
 use child::Way;
 use compare::random::{self, Draft, Random};
 use compare::simple::{self, Catalogue, Entry, INPUT_BYTES};
-use compare::{table, unfilled};
+use compare::{keyed, named, table, unfilled};
 use std::path::PathBuf;
 use std::process::exit;
 use std::time::Instant;
@@ -118,15 +118,20 @@ fn sizes(trial: &mut Trial) -> Outcome {
     trial.compare("much noise", &inputs::noise(random, 1_000_000), &Way::at_once())
 }
 
-/// Catalogues with missing cells, or without rows: small ones, and ones of 15 and 16 columns.
-fn gaps(trial: &mut Trial) -> Outcome {
-    for catalogue in unfilled::small() {
+/// The named catalogues, with missing cells, without rows, or with keys that stand for columns: small ones, and ones of
+/// 15 and 16 columns.
+fn named(trial: &mut Trial) -> Outcome {
+    for catalogue in named::all() {
         trial.compare(catalogue.name, &catalogue.draft.file(), &Way::at_once())?;
     }
     for columns in [15, 16] {
         let whole = Draft { tables: vec![unfilled::but_one(columns, columns == 16)] };
         trial.compare("all cells but one", &whole.file(), &Way::at_once())?;
         trial.compare("cells in one half", &unfilled::halves(columns, 200).file(), &Way::at_once())?;
+        for twice in [false, true] {
+            let ones = Draft { tables: vec![keyed::one_each(columns, twice)] };
+            trial.compare("all columns but one", &ones.file(), &Way::at_once())?;
+        }
     }
     Ok(())
 }
@@ -196,7 +201,7 @@ fn main() {
     let start = Instant::now();
     let mut trial = Trial { program, refusals: [0; 17], too_long: 0, listings: 0, most_entries: 0 };
     end_on_difference(sizes(&mut trial));
-    end_on_difference(gaps(&mut trial));
+    end_on_difference(named(&mut trial));
     end_on_difference(lengths(&mut trial));
     for seed in first..first + count {
         end_on_difference(catalogue(&mut trial, seed));

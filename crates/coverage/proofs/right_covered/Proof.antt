@@ -16,7 +16,7 @@ slice-aggregate-close-lefts c = search needs
 
 close-lefts-requires : tie.Need-close-lefts-requires
 close-lefts-requires c κs =
-    let s = c .before .before .before .before .before in
+    let s = c .before .before .before .before .before .before in
     let room = s .pre .2 in
     (blank-room _ (room .word) (room .few), s .pre .3, lefts-narrow _ _ _ _ _ (s .pre .0) (s .pre .5))
 
@@ -25,7 +25,7 @@ slice-aggregate-close-sets c = search needs
 
 close-sets-requires : tie.Need-close-sets-requires
 close-sets-requires c κs =
-    let s = c .before .before .before .before .before .before .before .before in
+    let s = c .before .before .before .before .before .before .before .before .before in
     let room = s .pre .2 in
     (blank-room _ (room .word) (room .few), s .pre .4, sets-narrow _ _ _ _ _ (s .pre .0) (s .pre .6))
 
@@ -37,10 +37,12 @@ slice-aggregate-all-covered-2 c = search needs
 
 all-covered-requires : tie.Need-all-covered-requires
 all-covered-requires c κs =
-    let s = c .before .before .before .before .before .before .before .before .before .before .before .before in
+    let lefts = c .before .before .before .before .before .before in
+    let s = lefts .before .before .before .before .before .before .before in
     let given = s .pre .2 in
     let room = blank-room _ (given .word) (given .few) in (
       given,
+      s .pre .7,
       room-kept (search needs) room,
       room-kept (search needs) room,
       s .pre .0,
@@ -52,9 +54,9 @@ returns c v en there =
     let sets = c .before .before .before .before in
     let lefts = sets .before .before .before in
     let right = lefts .before .before in
-    let s = right .before .before .before .before in
-    right-covered-is v _ _ _ _ _ _ _ (now (s .args .backed)) _ _ (right .right-at .ensures) (s .pre .0) en there
-    (lefts .close-lefts .ensures) (sets .close-sets .ensures) (c .all-covered .ensures)
+    let s = right .before .before .before .before .before in
+    right-covered-is v _ _ _ _ _ _ _ (now (s .args .backed)) (now (s .args .keys)) _ _ (right .right-at .ensures)
+    (s .pre .0) en there (s .pre .8) (lefts .close-lefts .ensures) (sets .close-sets .ensures) (c .all-covered .ensures)
 
 pub right-covered-spec : {M : Type 1} → statement M
 right-covered-spec =

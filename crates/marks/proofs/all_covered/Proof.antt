@@ -10,11 +10,11 @@ use Rattle.marks.proofs.all_covered.Statement.{statement}
 use Rattle.marks.proofs.all_covered.Tie as tie
 
 abbrev Inv-loop : tie.InvT-loop
-Inv-loop backed lefts sets n m a end x₀ x =
-    (x ≤ end) × ((q : ℕ) → q < x → CoveredBy backed lefts sets m a q)
+Inv-loop backed keys lefts sets n m a end x₀ x =
+    (x ≤ end) × ((q : ℕ) → q < x → CoveredBy backed keys lefts sets m a q)
 
 abbrev μ-loop : tie.MeasureT-loop
-μ-loop backed lefts sets n m a end x₀ x = end - x
+μ-loop backed keys lefts sets n m a end x₀ x = end - x
 
 power-requires : tie.Need-power-requires Inv-loop μ-loop
 power-requires c κs = search needs
@@ -24,10 +24,10 @@ loop-holds c = (omega arith, λ q l. absurd (omega arith))
 
 is-covered-requires : tie.Need-is-covered-requires Inv-loop μ-loop
 is-covered-requires c κs =
-    let s = c .before .before .before .before .before .before in
+    let s = c .before .before .before .before .before .before .before in
     let h = pow-mono {i = s .args .n} {j = s .args .m} (omega arith) in
     let e = c .before .before .power .ensures in
-    (s .pre .0, s .pre .1, s .pre .2, omega arith, omega arith)
+    (s .pre .0, s .pre .1, s .pre .2, s .pre .3, omega arith, omega arith)
 
 returns : tie.Need-returns Inv-loop μ-loop
 returns c =
@@ -42,10 +42,11 @@ loop-less c = omega arith
 
 loop-again : tie.Need-loop-again Inv-loop μ-loop
 loop-again c =
-    let s = c .before .before .before .before .before .before .before .before in
+    let s = c .before .before .before .before .before .before .before .before .before in
     let x = c .before .before .before .loop .x in
     let Covers : ℕ → Type 0 =
-    CoveredBy (s .args .backed .now) (s .args .lefts .now) (s .args .sets .now) (s .args .m) (s .args .a) in (
+    CoveredBy (s .args .backed .now) (s .args .keys .now) (s .args .lefts .now) (s .args .sets .now) (s .args .m)
+    (s .args .a) in (
       omega arith,
       below-more {P = Covers} (c .before .before .before .loop .inv .1)
           (said-yes {P = Covers x} (c .before .is-covered .ensures) (c .if1 .left)),

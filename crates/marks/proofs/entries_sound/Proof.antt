@@ -12,21 +12,21 @@ use Rattle.marks.proofs.entries_sound.Statement.{statement}
 use Rattle.marks.proofs.entries_sound.Tie as tie
 
 abbrev Inv-loop : tie.InvT-loop
-Inv-loop list count first target right backed broken lefts m at₀ rest₀ at rest =
-    Testing (SoundBy backed broken lefts m target right) (NarrowLeft m target right) (entriesFrom list count first)
-    (entriesFrom list rest at) × (at + entryBytes * rest ≤ length list)
+Inv-loop list count first target right backed broken keys lefts m at₀ rest₀ at rest =
+    Testing (SoundBy backed broken keys lefts m target right) (NarrowLeft m target right)
+    (entriesFrom list count first) (entriesFrom list rest at) × (at + entryBytes * rest ≤ length list)
 
 abbrev μ-loop : tie.MeasureT-loop
-μ-loop list count first target right backed broken lefts m at₀ rest₀ at rest = rest
+μ-loop list count first target right backed broken keys lefts m at₀ rest₀ at rest = rest
 
 loop-holds : tie.Need-loop-holds Inv-loop μ-loop
-loop-holds c = (testing-begun (c .before .before .before .before .pre .4), omega arith)
+loop-holds c = (testing-begun (c .before .before .before .before .before .pre .5), omega arith)
 
 is-sound-requires : tie.Need-is-sound-requires Inv-loop μ-loop
 is-sound-requires c κs =
-    let s = c .before .before .before .before .before .before in
+    let s = c .before .before .before .before .before .before .before in
     let fine = testing-fine (entries-next _ _ _ (omega arith)) (c .before .loop .inv .0) in
-    (s .pre .0, s .pre .1, s .pre .2, fine, omega arith)
+    (s .pre .0, s .pre .1, s .pre .2, s .pre .3, fine, omega arith)
 
 returns : tie.Need-returns Inv-loop μ-loop
 returns c =

@@ -5,7 +5,7 @@ use native.Mathlib.Omega.{arith}
 use denote.Ref.{now}
 use Rattle.model.specs.Listing.{ordinary}
 use Rattle.model.proofs.Check.{accepted-visible, accepted-rows}
-use Rattle.rights.proofs.Held.{own-fits, keyed-rows, alone-rights}
+use Rattle.rights.proofs.Held.{own-fits, keyed-rows, filtered, alone-rights}
 use borrow.Author.Needs.{needs}
 use Rattle.rights.proofs.enter.Statement.{statement}
 use Rattle.rights.proofs.enter.Tie as tie
@@ -55,7 +55,9 @@ returns c =
     let t = c .before .before .before .before in
     let s = t .before .before .before .before .before .before .before in (
       λ one.
-          alone-rights (ordinary (now (s .args .cat))) (s .args .target) (s .args .left) (t .own-rights .ensures)
+          alone-rights (ordinary (now (s .args .cat))) (s .args .target)
+          (filtered (now (s .args .cat)) (s .args .target) (s .pre .0) (s .pre .1 .0) (s .pre .1 .1 .0))
+          (t .own-rights .ensures)
           (keyed-rows _ _ (t .before .rows .ensures) (t .before .before .lay-all .ensures))
           (c .before .minimal-alone .ensures)
           (c .filter-alone .ensures),

@@ -12,10 +12,14 @@ returns c = λ v own e h. kept-none v _ _ (c .if1 .taken)
 backed-bit-requires : tie.Need-backed-bit-requires
 backed-bit-requires c κs = search needs
 
+undropped-requires : tie.Need-undropped-requires
+undropped-requires c κs = search needs
+
 returns-2 : tie.Need-returns-2
 returns-2 c =
-    let s = c .before .before .before .before in
-    kept-by _ _ _ _ (s .args .held) (now (s .args .work)) (c .before .backed-bit .ensures) (c .if2 .taken)
+    let s = c .before .before .before .before .before in
+    kept-by _ _ _ _ _ (s .args .held) (now (s .args .work)) (c .before .before .backed-bit .ensures)
+    (c .before .if2 .taken) (c .undropped .ensures)
 
 returns-3 : tie.Need-returns-3
 returns-3 c =
@@ -23,4 +27,4 @@ returns-3 c =
     dropped-by _ _ _ _ (s .args .held) (now (s .args .work)) (c .before .backed-bit .ensures) (c .if2 .left)
 
 pub filter-spec : {M : Type 1} → statement M
-filter-spec = tie.close (tie.spec returns backed-bit-requires returns-2 returns-3)
+filter-spec = tie.close (tie.spec returns backed-bit-requires undropped-requires returns-2 returns-3)

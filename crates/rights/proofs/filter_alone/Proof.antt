@@ -5,8 +5,8 @@ use denote.Ref.{now}
 use borrow.Author.Needs.{needs}
 use Rattle.model.specs.View.{backed}
 use Rattle.model.specs.Target.{view}
-use Rattle.model.proofs.Check.{accepted-rows}
-use Rattle.rights.proofs.Kept.{kept-none, kept-all, kept-no}
+use Rattle.model.proofs.Check.{accepted-visible, accepted-rows}
+use Rattle.rights.proofs.Kept.{kept-none, kept-backed, kept-no}
 use Rattle.rights.proofs.Held.{sets-rows}
 use Rattle.rights.proofs.filter_alone.Statement.{statement}
 use Rattle.rights.proofs.filter_alone.Tie as tie
@@ -44,8 +44,20 @@ found c =
     (c .before .before .before .lay .ensures))
     (s .pre .1 .1 .1)
 
+undropped-requires : tie.Need-undropped-requires
+undropped-requires c κs =
+    let s = c .before .before .before .before .before .before .before .before in
+    omega (
+      arith,
+      s .pre .1 .1 .0,
+      accepted-visible (now (s .args .cat)) (s .pre .0) (s .args .target) (s .pre .1 .0),
+    )
+
 returns-2 : tie.Need-returns-2
-returns-2 c = kept-all _ _ _ (sym (found (c .before)) ∙ c .if2 .taken)
+returns-2 c =
+    let s = c .before .before .before .before .before .before .before .before .before in
+    kept-backed _ _ _ _ _ (sym (s .pre .1 .1 .0)) (sym (found (c .before .before)) ∙ c .before .if2 .taken)
+    (c .undropped .ensures)
 
 returns-3 : tie.Need-returns-3
 returns-3 c = kept-no _ _ _ (sym (found (c .before)) ∙ c .if2 .left)
@@ -53,4 +65,12 @@ returns-3 c = kept-no _ _ _ (sym (found (c .before)) ∙ c .if2 .left)
 pub filter-alone-spec : {M : Type 1} → statement M
 filter-alone-spec =
     tie.close
-    (tie.spec returns lay-requires rows-requires cast-end is-backed-requires returns-2 returns-3)
+    (tie.spec
+    returns
+    lay-requires
+    rows-requires
+    cast-end
+    is-backed-requires
+    undropped-requires
+    returns-2
+    returns-3)

@@ -1,11 +1,12 @@
 -- `rights::rights` meets its contract.
-use mathlib.Core.Path.{sym}
+use Prim.Native.Nat.{ℕ, _^_, _<_}
+use mathlib.Core.Path.{sym, subst}
 use native.Mathlib.Omega.{arith}
 use denote.Ref.{now}
 use Rattle.model.specs.Listing.{ordinary}
 use Rattle.model.specs.Target.{view}
 use Rattle.model.proofs.Check.{accepted-visible}
-use Rattle.rights.proofs.Held.{readable, own-fits, ready-rights, ready-still}
+use Rattle.rights.proofs.Held.{readable, own-fits, filtered, ready-rights, ready-still}
 use borrow.Author.Needs.{needs}
 use Rattle.rights.proofs.rights.Statement.{statement}
 use Rattle.rights.proofs.rights.Tie as tie
@@ -40,10 +41,13 @@ same-length c = search needs
 returns : tie.Need-returns
 returns c =
     let s = c .before .before .before .before .before .before .before .before in
-    let l = ordinary (now (s .args .cat)) in
+    let cat = now (s .args .cat) in
+    let e = s .pre .1 .1 .0 .0 in
+    let f = filtered cat (s .args .target) (s .pre .0) (s .pre .1 .0)
+    (subst (λ (n : ℕ). s .args .left < 2 ^ n) e (s .pre .1 .1 .0 .1)) in
     let m = c .before .before .before .before .minimal in (
-      ready-rights l (s .args .target) (s .pre .1 .1 .1) (s .pre .1 .1 .0 .0) (m .ensures) (c .filter .ensures),
-      ready-still l (s .args .target) (s .pre .1 .1 .1) (s .pre .1 .1 .0 .0) (m .ensures),
+      ready-rights (ordinary cat) (s .args .target) f (s .pre .1 .1 .1) e (m .ensures) (c .filter .ensures),
+      ready-still (ordinary cat) (s .args .target) f (s .pre .1 .1 .1) e (m .ensures),
     )
 
 pub rights-spec : {M : Type 1} → statement M

@@ -17,7 +17,7 @@ slice-aggregate-fill c = search needs
 
 fill-requires : tie.Need-fill-requires
 fill-requires c κs =
-    let s = c .before .before .before .before .before in
+    let s = c .before .before .before .before .before .before in
     let room = s .pre .3 in
     (room .word, room .few, omega arith, room .fits, seedWords-small (s .args .m) (room .few))
 
@@ -26,7 +26,7 @@ slice-aggregate-close-lefts c = search needs
 
 close-lefts-requires : tie.Need-close-lefts-requires
 close-lefts-requires c κs =
-    let s = c .before .before .before .before .before .before .before .before in
+    let s = c .before .before .before .before .before .before .before .before .before in
     let room = s .pre .3 in
     (blank-room (s .args .m) (room .word) (room .few), s .pre .5, lefts-narrow _ _ _ _ _ (s .pre .0) (s .pre .6))
 
@@ -38,11 +38,13 @@ slice-aggregate-entries-sound-2 c = search needs
 
 entries-sound-requires : tie.Need-entries-sound-requires
 entries-sound-requires c κs =
-    let s = c .before .before .before .before .before .before .before .before .before .before .before .before in
+    let fill = c .before .before .before .before .before .before in
+    let s = fill .before .before .before .before .before .before .before in
     let room = s .pre .3 in
     let small = seedWords-small (s .args .m) (room .few) in (
       s .pre .4,
       record { word = room .word; few = room .few; fits = omega arith },
+      s .pre .7,
       record { word = room .word; few = room .few; fits = omega arith },
       s .pre .5,
       lefts-narrow _ _ _ _ _ (s .pre .0) (s .pre .6),
@@ -53,10 +55,10 @@ returns c v en eq sown there =
     let lefts = c .before .before .before .before in
     let fill = lefts .before .before .before in
     let right = fill .before .before .right-at in
-    let s = fill .before .before .before .before .before .before in
-    sound-in v _ _ (s .args .n) (s .args .m) (s .args .a) (right .result) _ (now (s .args .backed)) _ _ (s .pre .0)
-    (s .pre .1) (s .pre .2) (right .ensures) (s .pre .6) (fill .fill .ensures) (lefts .close-lefts .ensures)
-    (c .entries-sound .ensures) en eq sown there
+    let s = fill .before .before .before .before .before .before .before in
+    sound-in v _ _ (s .args .n) (s .args .m) (s .args .a) (right .result) _ (now (s .args .backed)) _
+    (now (s .args .keys)) _ (s .pre .0) (s .pre .1) (s .pre .2) (right .ensures) (s .pre .6) (fill .fill .ensures)
+    (s .pre .8) (lefts .close-lefts .ensures) (c .entries-sound .ensures) en eq sown there
 
 pub right-sound-spec : {M : Type 1} → statement M
 right-sound-spec =

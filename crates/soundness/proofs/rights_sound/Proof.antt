@@ -10,11 +10,11 @@ use Rattle.soundness.proofs.rights_sound.Statement.{statement}
 use Rattle.soundness.proofs.rights_sound.Tie as tie
 
 abbrev Inv-loop : tie.InvT-loop
-Inv-loop list count first target n m low seeds backed a₀ a =
+Inv-loop list count first target n m low seeds backed keys a₀ a =
     Passed (SoundAt (entriesFrom list count first) target n m seeds backed) low n a
 
 abbrev μ-loop : tie.MeasureT-loop
-μ-loop list count first target n m low seeds backed a₀ a = n + 1 - a
+μ-loop list count first target n m low seeds backed keys a₀ a = n + 1 - a
 
 loop-holds : tie.Need-loop-holds Inv-loop μ-loop
 loop-holds c = passed-none (omega arith)

@@ -10,6 +10,7 @@ use Rattle.model.proofs.Check.{accepted-visible}
 use Rattle.model.proofs.Climb.{inherited-visible}
 use Rattle.model.proofs.Target.{view-equivalence}
 use Rattle.evidence.proofs.Answers.{says-no, said-yes, said-no, same-answer}
+use Rattle.evidence.proofs.Sides.{lefts-narrow}
 use Rattle.planes.proofs.Marks.{blank-room, room-kept}
 use Rattle.soundness.proofs.Laws.{not-fitting, fitting, fits-narrow}
 use borrow.Author.Needs.{needs}
@@ -61,15 +62,35 @@ backed-plane-requires c κs =
     let s = wide .before .before .before .before .before .before .before in
     (s .pre .0, (omega (arith, s .pre .1 .0), (n, m .all, blank-room _ (m .word) (m .few (omega (arith, few s, n))))))
 
+slice-aggregate-close-lefts : tie.Need-slice-aggregate-close-lefts
+slice-aggregate-close-lefts c = search needs
+
+close-lefts-requires : tie.Need-close-lefts-requires
+close-lefts-requires c κs =
+    let wide = c .before .before .before .before .before .before .before in
+    let fit = wide .before in
+    let n = fit .before .before .before .visible .ensures in
+    let m = wide .wide .ensures in
+    let s = fit .before .before .before .before .before .before in (
+      blank-room _ (m .word) (m .few (omega (arith, few s, n))),
+      s .pre .1 .1,
+      lefts-narrow _ _ _ _ _ (m .all) (fits-narrow (said-yes (fit .before .entries-fit .ensures) (fit .if1 .left))),
+    )
+
 slice-aggregate-rights-sound : tie.Need-slice-aggregate-rights-sound
 slice-aggregate-rights-sound c = search needs
 
 slice-aggregate-rights-sound-2 : tie.Need-slice-aggregate-rights-sound-2
 slice-aggregate-rights-sound-2 c = search needs
 
+slice-aggregate-rights-sound-3 : tie.Need-slice-aggregate-rights-sound-3
+slice-aggregate-rights-sound-3 c = search needs
+
 rights-sound-requires : tie.Need-rights-sound-requires
 rights-sound-requires c κs =
-    let wide = c .before .before .before .before .before .before .before .before in
+    let keys = c .before .before .before .before in
+    let sow = keys .before .before .before .before .before .before in
+    let wide = sow .before .before in
     let fit = wide .before in
     let n = fit .before .before .before .visible in
     let s = fit .before .before .before .before .before .before in
@@ -84,15 +105,19 @@ rights-sound-requires c κs =
         n .ensures,
         fit .before .before .inherited .ensures,
       ),
-      room-kept (c .before .before .before .before .before .before .sow .ensures .0) room,
+      room-kept (sow .sow .ensures .0) room,
       room-kept (search needs) room,
       s .pre .1 .1,
       fits-narrow (said-yes (fit .before .entries-fit .ensures) (fit .if1 .left)),
+      room-kept (search needs) room,
+      keys .close-lefts .ensures,
     )
 
 returns-2 : tie.Need-returns-2
 returns-2 c =
-    let fit = c .before .before .before .before .before .before .before .before .before .before in
+    let backed = c .before .before .before .before .before .before .before .before in
+    let sow = backed .before .before .before in
+    let fit = sow .before .before .before in
     let s = fit .before .before .before .before .before .before in
     let cat = now (s .args .cat) in
     let n = fit .before .before .before .visible .ensures in
@@ -102,8 +127,7 @@ returns-2 c =
     (said-yes (fit .before .entries-fit .ensures) (fit .if1 .left)) in
     same-answer (by .0) (by .1)
     (c .rights-sound .ensures (view cat (s .args .target)) (sym n) (view-equivalence cat (s .args .target))
-    (c .before .before .before .before .before .before .before .sow .ensures .1)
-    (c .before .before .before .before .backed-plane .ensures))
+    (sow .sow .ensures .1) (backed .backed-plane .ensures))
 
 pub target-sound-spec : {M : Type 1} → statement M
 target-sound-spec =
@@ -118,7 +142,10 @@ target-sound-spec =
     sow-requires
     slice-aggregate-backed-plane
     backed-plane-requires
+    slice-aggregate-close-lefts
+    close-lefts-requires
     slice-aggregate-rights-sound
     slice-aggregate-rights-sound-2
+    slice-aggregate-rights-sound-3
     rights-sound-requires
     returns-2)

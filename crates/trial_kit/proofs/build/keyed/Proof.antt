@@ -7,10 +7,10 @@ use Rattle.trial_kit.proofs.build.keyed.Statement.{statement}
 use Rattle.trial_kit.proofs.build.keyed.Tie as tie
 
 abbrev Inv-loop : tie.InvT-loop
-Inv-loop b₀ n set next₀ k₀ b next k = length b ≡ length b₀
+Inv-loop b₀ n set twice next₀ count rows k₀ b next k = length b ≡ length b₀
 
 abbrev μ-loop : tie.MeasureT-loop
-μ-loop b₀ n set next₀ k₀ b next k = n - k
+μ-loop b₀ n set twice next₀ count rows k₀ b next k = n - k
 
 put2-requires : tie.Need-put2-requires Inv-loop μ-loop
 put2-requires c κs = search needs
@@ -21,8 +21,11 @@ put2-requires-2 c κs = search needs
 size-requires : tie.Need-size-requires Inv-loop μ-loop
 size-requires c κs = search needs
 
-add-put2 : tie.Need-add-put2 Inv-loop μ-loop
-add-put2 c = search needs
+add-count : tie.Need-add-count Inv-loop μ-loop
+add-count c = search needs
+
+mul-rows : tie.Need-mul-rows Inv-loop μ-loop
+mul-rows c = search needs
 
 put2-requires-3 : tie.Need-put2-requires-3 Inv-loop μ-loop
 put2-requires-3 c κs = search needs
@@ -66,7 +69,8 @@ keyed-spec =
     put2-requires
     put2-requires-2
     size-requires
-    add-put2
+    add-count
+    mul-rows
     put2-requires-3
     marked-requires
     loop-holds

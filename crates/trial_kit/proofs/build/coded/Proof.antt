@@ -1,19 +1,16 @@
--- `marked` is safe and ends: the bytes stay as many, and the columns are counted.
+-- `coded` is safe and ends: the bytes stay as many, and the columns are counted.
 use Prim.Native.Nat.{_-_}
 use mathlib.Core.Path.{_≡_}
 use lib.ListN.{length}
 use borrow.Author.Needs.{needs}
-use Rattle.trial_kit.proofs.build.marked.Statement.{statement}
-use Rattle.trial_kit.proofs.build.marked.Tie as tie
+use Rattle.trial_kit.proofs.build.coded.Statement.{statement}
+use Rattle.trial_kit.proofs.build.coded.Tie as tie
 
 abbrev Inv-loop : tie.InvT-loop
 Inv-loop b₀ at n set own next₀ k₀ b next k = length b ≡ length b₀
 
 abbrev μ-loop : tie.MeasureT-loop
 μ-loop b₀ at n set own next₀ k₀ b next k = n - k
-
-offset-requires : tie.Need-offset-requires Inv-loop μ-loop
-offset-requires c κs = search needs
 
 put2-requires : tie.Need-put2-requires Inv-loop μ-loop
 put2-requires c κs = search needs
@@ -42,13 +39,12 @@ same-length c = search needs
 returns : tie.Need-returns Inv-loop μ-loop
 returns c = search needs
 
-pub marked-spec : {M : Type 1} → statement M
-marked-spec =
+pub coded-spec : {M : Type 1} → statement M
+coded-spec =
     tie.close
     (tie.spec
     Inv-loop
     μ-loop
-    offset-requires
     put2-requires
     loop-holds
     member-requires

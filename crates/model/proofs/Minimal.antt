@@ -1,5 +1,6 @@
 -- Lefts that hold and the minimal ones, over any view: each that holds contains a minimal one, and a minimal one
--- contains no other that holds.
+-- contains no other that holds. And keys: a key gives every right, and one that is minimal for some right is a minimal
+-- key.
 use Prim.Native.Nat.{ℕ, zero, suc, _^_, _≤_, _<_}
 use mathlib.Core.Path.{_≡_, sym, subst, _∙_}
 use mathlib.Core.Logic.{_⊎_, inl, inr}
@@ -10,10 +11,12 @@ use lib.Dec.{T}
 use lib.Pow.{pow-pos}
 use Rattle.columns.specs.Set.{bit, withoutOf}
 use Rattle.columns.proofs.Bits.{bit-one, bits-same, bit-without-other, bit-power-le, without-lt}
-use Rattle.model.specs.View.{View, In, isIn, Holds, holds, Minimal, allBelow}
-use Rattle.model.specs.Verify.{Inside}
-use Rattle.model.proofs.Truth.{decided, and-is, not-is, allBelow-is, one-fails}
-use Rattle.model.proofs.View.{isIn-is, holds-is, minimal-least, without-lacks}
+use Rattle.model.specs.Bounds.{row}
+use Rattle.model.specs.View.{View, Equivalence, In, isIn, agreeRight, Holds, holds, Key}
+use Rattle.model.specs.View.{Minimal, allBelow}
+use Rattle.model.specs.Contains.{Inside}
+use Rattle.model.proofs.Truth.{decided, and-is, not-is, eqb-is, allBelow-is, one-fails}
+use Rattle.model.proofs.View.{isIn-is, holds-is, minimal-least, without-lacks, agreeRight-reflexive}
 
 -- a set with a column less lies inside it
 pub without-inside : (x k : ℕ) → Inside (withoutOf x k) x
@@ -95,3 +98,17 @@ module _ (v : View) (a : ℕ) where
           let lacks : In k y → ⊥ = omega arith in
           absurd (minimal-least v x a .0 m .least y (λ j b i. w j i) k l (bit-one x k q) lacks h)
       at k l (no p) q = let i = bit-one y k p in i ∙ sym (w k i)
+
+-- a key gives every right: rows that agree on it are one row
+pub key-gives : (v : View) → Equivalence v → (x a : ℕ) → Key v x → Holds v x a
+key-gives v eq x a key p q lp lq agree =
+    subst (λ (r : ℕ). T (agreeRight v a p r)) (eqb-is p q .0 (key p q lp lq agree)) (agreeRight-reflexive v eq a p)
+
+-- a left that is a key and minimal for some right is a minimal key: a smaller key would give that right too
+pub key-minimal : (v : View) → Equivalence v → (x a : ℕ) → (In row x → ⊥) → Key v x → Minimal v x a → Minimal v x row
+key-minimal v eq x a low key m =
+    record {
+      holds = key;
+      outside = low;
+      spare = λ k l i less. m .spare k l i (key-gives v eq (withoutOf x k) a less);
+    }
