@@ -26,7 +26,7 @@ use Rattle.model.specs.Listing.{ordinary, cells}
 use Rattle.model.specs.Calls.{flat, passed, written, placeCode, roomCode, callCode, runAfter, Seen, Obeys}
 use Rattle.model.specs.List.{ListMeaning, listCode}
 use Rattle.model.specs.Album.{album, noRows, oneMissing, bothMissing, equalRows, twoGroups}
-use Rattle.model.specs.Album.{parted, lostAbove, twoKeys, twins}
+use Rattle.model.specs.Album.{parted, lostAbove, twoKeys}
 use Rattle.model.specs.Cases.{Cases}
 use Rattle.model.specs.declared.Entry.{Entry}
 use Rattle.model.proofs.Grounds.{orElse-none}

@@ -2,16 +2,16 @@
 -- its right, or a listed key. For any listing whose rights have the row, and for the ordinary one of a catalogue.
 use Prim.Native.Nat.{ℕ, _^_, _≤_, _<_}
 use mathlib.Core.Path.{_≡_, refl, sym, subst, _∙_}
-use mathlib.Core.Logic.{_⊎_, inl, inr, ⊎-elim, _↔_}
+use mathlib.Core.Logic.{_⊎_, inl, inr, ⊎-elim}
 use mathlib.Core.List.{List, List·Memᴰ}
 use native.Mathlib.Omega.{arith}
 use Rattle.columns.specs.Bound.{columnBound}
 use Rattle.columns.proofs.Bits.{bit-past}
 use Rattle.model.specs.Bounds.{row}
 use Rattle.model.specs.Check.{Accepted}
-use Rattle.model.specs.View.{View, Equivalence, In, Holds, Backed}
+use Rattle.model.specs.View.{Equivalence, In, Holds, Backed}
 use Rattle.model.specs.Listed.{Listed}
-use Rattle.model.specs.Listing.{Listing, widthOf, rightsOf, cells, Bounded, Stands, ordinary}
+use Rattle.model.specs.Listing.{Listing, widthOf, rightsOf, cells, Bounded, ordinary}
 use Rattle.model.specs.Calls.{flat}
 use Rattle.model.specs.Contains.{ContainsListed, ContainsKey, NothingLost}
 use Rattle.model.specs.Entry.{entry}

@@ -8,7 +8,6 @@ use mathlib.Core.List.{List·Memᴰ·cases-cons}
 use mathlib.Core.Bool.{Bool, true, false}
 use native.Mathlib.Decide.{ℕ-discrete, decLt}
 use native.Mathlib.Omega.{arith}
-use lib.Dec.{T}
 use lib.ListN.{length}
 use lib.Pow.{pow-pos, pow-mono}
 use Rattle.columns.specs.Bound.{columnBound}

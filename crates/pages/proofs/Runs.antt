@@ -1,6 +1,6 @@
 -- What a listing call with a run by value gives on an accepted catalogue, from a place up to the last and with a
 -- budget for all sets: it is never refused, and its first records are the entries of the sets that it passed.
-use Prim.Native.Nat.{ℕ, suc, _+_, _-_, _≤_, _<_}
+use Prim.Native.Nat.{ℕ, _+_, _-_, _≤_, _<_}
 use mathlib.Core.Path.{_≡_, sym, ap, subst, _∙_}
 use mathlib.Core.List.{List, [], _∷_, _++_}
 use native.Mathlib.Omega.{arith}
