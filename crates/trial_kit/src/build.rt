@@ -63,18 +63,22 @@ fn finish(b: &mut [u8], at: usize, tables: u32, start: usize) -> usize {
     put4(b, next, offset(start))
 }
 
+// The end of a catalogue of one table, behind its last row.
+fn lone(b: &mut [u8], end: usize) -> usize {
+    let next = put4(b, end, 0);
+    finish(b, next, 1, end)
+}
+
 // One table of n columns and r rows, whose first column is a key.
 pub fn flat(b: &mut [u8], n: u32, r: u32) -> usize {
     let end = table(b, 0, n, 65535, r, true);
-    let next = put4(b, end, 0);
-    finish(b, next, 1, end)
+    lone(b, end)
 }
 
 // One table of n columns and r equal rows.
 pub fn equal(b: &mut [u8], n: u32, r: u32) -> usize {
     let end = table(b, 0, n, 65535, r, false);
-    let next = put4(b, end, 0);
-    finish(b, next, 1, end)
+    lone(b, end)
 }
 
 // Overwrites the code in the first column of a row of such a table, of 16 columns.
@@ -127,9 +131,7 @@ pub fn keyed(b: &mut [u8], n: u32, set: ColumnSet, twice: bool) -> usize {
         next = spared(b, next, n, set, k, twice);
         k += 1;
     }
-    let end = next;
-    next = put4(b, next, 0);
-    finish(b, next, 1, end)
+    lone(b, next)
 }
 
 // Two tables of so many columns, each with one row, the second under the first.

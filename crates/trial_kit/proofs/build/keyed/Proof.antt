@@ -48,11 +48,8 @@ loop-less c = search needs
 loop-again : tie.Need-loop-again Inv-loop μ-loop
 loop-again c = search needs
 
-put4-requires : tie.Need-put4-requires Inv-loop μ-loop
-put4-requires c κs = search needs
-
-finish-requires : tie.Need-finish-requires Inv-loop μ-loop
-finish-requires c κs = search needs
+lone-requires : tie.Need-lone-requires Inv-loop μ-loop
+lone-requires c κs = search needs
 
 same-length : tie.Need-same-length Inv-loop μ-loop
 same-length c = search needs
@@ -78,7 +75,6 @@ keyed-spec =
     add-k
     loop-less
     loop-again
-    put4-requires
-    finish-requires
+    lone-requires
     same-length
     returns)
