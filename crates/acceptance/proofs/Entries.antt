@@ -8,7 +8,7 @@ use mathlib.Core.Bool.{Bool}
 use native.Mathlib.Omega.{arith}
 use Rattle.columns.specs.Bound.{columnBound}
 use Rattle.columns.specs.Test.{pick}
-use Rattle.columns.proofs.Bits.{bit-past, bit-member}
+use Rattle.columns.proofs.Bits.{bit-member}
 use Rattle.columns.proofs.Test.{ifEq-no}
 use Rattle.model.specs.Bounds.{tableBound, row}
 use Rattle.model.specs.Catalogue.{tables, visible}
@@ -22,6 +22,7 @@ use Rattle.model.specs.declared.Entry.{Entry}
 use Rattle.model.specs.declared.Refusal.the-variants.{BadEntry}
 use Rattle.model.proofs.Grounds.{orElse-both}
 use Rattle.model.proofs.Check.{accepted-visible}
+use Rattle.model.proofs.Contains.{row-outside}
 use Rattle.model.proofs.Earlier.{earlier-transitive}
 use Rattle.entries.proofs.Checks.{bad-some}
 use Rattle.entries.proofs.Grounds.{no-le}
@@ -88,9 +89,7 @@ right-outside cat ok e fine allowed i = at (w .2)
 
     at : OwnRight cat (e .target) (e .right) → ⊥
     at (inl p) =
-        let z = bit-past (e .left) (visible cat (e .target)) (e .right) (w .1) (omega (arith, few)) in
-        let o : _≡_ {A = ℕ} 0 1 = sym z ∙ i in
-        omega arith
+        row-outside (visible cat (e .target)) (e .left) few (w .1) (subst (λ (a : ℕ). In a (e .left)) p i)
     at (inr l) =
         let b = l .1 in
         column-outside e fine (omega (arith, few)) i
