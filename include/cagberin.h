@@ -2,9 +2,9 @@
  * cagberin.h - what determines what in a media catalogue.
  *
  * A media catalogue is a file of tables in a tree. The calls check one, say whether a dependency holds in it, give the
- * first pair of rows that breaks one, list in steps all minimal dependencies and keys that some row backs, save what a
- * key gives, pack and read such lists, and check by evidence that a list is the full one. examples/c/example.c makes
- * each call.
+ * first pair of rows that breaks one, list in steps all minimal dependencies and keys that some row backs, save those
+ * of a column whose left side is a key, pack and read such lists, and check by evidence that a list is the full one.
+ * examples/c/example.c makes each call.
  *
  * Link with libhost.a, an archive for x86-64 Linux. Of the outside it needs memcpy and memset, nothing else.
  *
@@ -25,9 +25,8 @@
  * it meanwhile. What a call may write must be each thread's own.
  *
  * Stack. cagberin_verify needs up to 400 KB (409,600 bytes) of stack, cagberin_list up to 300 KB (307,200 bytes),
- * cagberin_ask and cagberin_pair up to 240 KB (245,760 bytes), each other call up to 16 KB (16,384 bytes). Measured on
- * a stack filled with a pattern beforehand, on catalogues of 4 to 4,096 rows: 304,952 bytes for a check by evidence,
- * 281,896 for a listing, 217,399 for a pair, 213,287 for a question.
+ * cagberin_ask and cagberin_pair up to 240 KB (245,760 bytes), each other call up to 16 KB (16,384 bytes). That is the
+ * call's own need: a thread wants some more for what else it does. docs/PERFORMANCE.md says what was measured.
  */
 #ifndef CAGBERIN_H
 #define CAGBERIN_H
@@ -70,8 +69,8 @@ extern "C" {
 /* ---- Refusals ---- */
 
 /*
- * The numbers that calls return. The document's number is the same without the sign; its word and its condition
- * stand beside each.
+ * The numbers that calls return. The document's number is the same without the sign; its word, where it has one, and
+ * its condition stand beside each.
  *
  * Where there are several grounds, the first in this order is returned: -1 and -2; then table by table its offset and
  * 6 bytes (-3), -4, -5, -6, its rows' extent (-3), each row (-7); after the last table, left bytes (-3); then -8 to
@@ -133,7 +132,9 @@ enum cagberin_refusal {
  * An entry names a dependency; those of a listing are the minimal ones whose left side is backed, without those with a
  * column on the right whose left is a key: a key stands for what it gives. Nothing is lost: a backed left side gives a
  * right that isn't in it exactly if it contains a left that is listed for the target and that right, or a listed key of
- * the target.
+ * the target. So if a dependency whose right isn't in its left is absent from a listing, then it breaks (cagberin_pair
+ * has the rows), or an entry whose left it contains, for its right or for CAGBERIN_ROW, stands for it, or nothing backs
+ * its left side.
  *
  * The fields of an entry stand in the order target, right, left, as in a packed list; the arguments of the calls come
  * in the order target, left, right. The record has 4 bytes, is aligned to 2 and has no padding.
@@ -196,8 +197,8 @@ int32_t cagberin_pair(const uint8_t *cat, size_t cat_len, uint32_t target, uint3
  * set's entries no longer all fit in the run.
  *
  * Returns the number of entries of these sets. They stand at the start of the run in listing order; the other records
- * are unaltered. *next_place is the place reached, *passed the number of sets passed, and every work word is 0.
- * Refusals: -1 to -7, -11, -12, -13; the run, *next_place and *passed are unaltered, and the work words too, save
+ * are unaltered. *reached is the place reached, *passed the number of sets passed, and every work word is 0.
+ * Refusals: -1 to -7, -11, -12, -13; the run, *reached and *passed are unaltered, and the work words too, save
  * that after -13 every one is 0.
  *
  * A whole listing begins at place 0, hands each call the place that the one before reached, and is whole when that is
@@ -211,7 +212,7 @@ int32_t cagberin_pair(const uint8_t *cat, size_t cat_len, uint32_t target, uint3
  */
 int64_t cagberin_list(const uint8_t *cat, size_t cat_len, uint32_t place, uint32_t budget,
                       struct cagberin_entry *run, size_t records, uint32_t *work, size_t words,
-                      uint32_t *next_place, uint32_t *passed);
+                      uint32_t *reached, uint32_t *passed);
 
 /*
  * Packs k entries, which must be in listing order, none twice.
@@ -249,15 +250,15 @@ int64_t cagberin_read(const uint8_t *file, size_t len, size_t from, struct cagbe
  * column set (2), two rows of the target (2 each), little-endian. A record is true if -8 to -10 allow its target, set
  * and right, both rows exist, its right isn't in its set (CAGBERIN_ROW is in no set), and its two rows, in either
  * order, agree on the set and disagree on the right; it need not be backed. The list is accepted if all records are
- * true; each entry is backed, holds, contains no other left that is listed for its target and right and, if its right
- * is a column, contains no listed key of its target, itself included; and, for every target and every right of it, each
- * backed set without that right contains a left listed for the two or a listed key of the target, or lies inside the
- * set of a record for the two.
+ * true; each entry is allowed by -8 to -10, is backed, holds, contains no other left that is listed for its target and
+ * right and, if its right is a column, contains no listed key of its target, itself included; and, for every target and
+ * every right of it, each backed set without that right contains a left listed for the two or a listed key of the
+ * target, or lies inside the set of a record for the two.
  *
  * Returns the number of entries of the list. Its entries are then the full listing of the catalogue, as a whole listing
  * by cagberin_list has it. And the full listing is accepted if all records are true and, for every target and every
  * right of it, each backed set without that right that doesn't give it lies inside the set of a record for the two: a
- * record for each largest such set is enough.
+ * record for each such set that lies inside no other is enough.
  * Refusals: -1 to -7 for the catalogue, then -14, -15 for the list, then -17, -18, -19.
  *
  * Nothing is written. The three may overlap; bytes in front of the list, such as the catalogue, aren't looked at.

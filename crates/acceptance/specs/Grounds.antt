@@ -37,6 +37,12 @@ VerifyRefusal n =
     ((1 ≤ n) × (n ≤ number BadParentRow)) ⊎ ((n ≡ number NoList) ⊎ ((n ≡ number BadEntry)
     ⊎ ((n ≡ number FalseRecord) ⊎ ((n ≡ number UnsoundEntry) ⊎ (n ≡ number UncoveredSet)))))
 
+-- so they lie from 1 to 19, and none of them is a ground of another call: 8 to 13, or 16
+pub record VerifyRefusals : Type 0 where
+  pub range : (n : ℕ) → VerifyRefusal n → (1 ≤ n) × (n ≤ 19)
+  pub otherCalls : (n : ℕ) → VerifyRefusal n → 8 ≤ n → 14 ≤ n
+  pub output : VerifyRefusal 16 → ⊥
+
 pub record VerifyGrounds (cat file bytes : List ℕ) : Type 0 where
   -- the catalogue's refusal comes first, then the list's
   pub catalogue : (checkCode cat ≡ 0 → ⊥) → verifyMeaning cat file bytes ≡ refused (checkCode cat)

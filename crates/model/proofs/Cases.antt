@@ -33,10 +33,10 @@ use Rattle.model.proofs.Grounds.{orElse-none}
 use Rattle.model.proofs.Complete.{after-none}
 use Rattle.model.proofs.Computes.{computes}
 use Rattle.model.proofs.Damaged.{damages, at-the-bounds, damage-order}
-use Rattle.model.proofs.RefusedCalls.{refused-questions, refused-listings, refused-lists}
+use Rattle.model.proofs.RefusedCalls.{one-ground, refused-questions, refused-listings, refused-lists}
 use Rattle.model.proofs.Supplied.{supplied}
 use Rattle.model.proofs.Line.{line, fork, depth}
-use Rattle.model.proofs.Replies.{question-replies, list-replies, packed-replies, text-replies}
+use Rattle.model.proofs.Replies.{question-replies, call-parts, list-replies, packed-replies, text-replies}
 use Rattle.model.proofs.Values.{bound-values, byte-order, refusal-numbers, answer-values}
 use Rattle.model.proofs.Text.{album-text}
 use Rattle.model.proofs.View.{holds-true, holds-false, breaks-is, minimal-is}
@@ -269,11 +269,13 @@ cases =
       damages = damages;
       atTheBounds = at-the-bounds;
       damageOrder = damage-order;
+      oneGround = one-ground;
       refusedQuestions = refused-questions;
       refusedListings = refused-listings;
       refusedLists = refused-lists;
       supplied = supplied;
       questionReplies = question-replies;
+      callParts = call-parts;
       listReplies = list-replies;
       packedReplies = packed-replies;
       textReplies = text-replies;

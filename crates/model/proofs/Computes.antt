@@ -23,7 +23,7 @@ use Rattle.model.specs.Encode.{rowsBytes, tableBytes, tablesBytes, start
 use Rattle.model.specs.Album.{album, noRows, oneMissing, bothMissing, equalRows, twoGroups, keyBelow}
 use Rattle.model.specs.Album.{parted, lostAbove, twoKeys, twins}
 use Rattle.model.specs.Damaged.{groundsFrom, notZero, grounds, cut, noTable, children, offsetsFrom, manyTables}
-use Rattle.model.specs.Damaged.{longTrailer, lateTable, shortHead, shortRow, leftByte, manyColumns, rowsOnly}
+use Rattle.model.specs.Damaged.{longTrailer, lateTable, gap, shortHead, shortRow, leftByte, manyColumns, rowsOnly}
 use Rattle.model.specs.Damaged.{manyRows, rootedRoot, ownParent, tooWide, rootedRow, unknownParentRow, smallest}
 use Rattle.model.specs.Damaged.{mostColumns, mostRows, widest, lateAndLarge, largeAndRooted, ownParentAndWide}
 use Rattle.model.specs.Damaged.{wideAndLong, longAndRooted, rowThenTable, rowThenByte}
@@ -58,7 +58,7 @@ unfolding ones onesIn ifEq ifLt ifLe withoutOf inOrder bySizeFrom ofSize ofSizeF
     firstFrom firstRow secondRow firstPair owner ownerIn ancestor ancestorIn cellsAgree agreeAt presentAt listed rightAt
     rightsFrom rightsIn rightsOf cells cellsFrom cellsOf entriesOf headOf codesOf rowOf trailerOf rowsBytes tableBytes
     tablesBytes startsFrom encode album noRows oneMissing bothMissing equalRows twoGroups keyBelow parted lostAbove
-    twoKeys twins groundsFrom notZero grounds cut noTable children offsetsFrom manyTables longTrailer lateTable
+    twoKeys twins groundsFrom notZero grounds cut noTable children offsetsFrom manyTables longTrailer lateTable gap
     shortHead shortRow leftByte manyColumns rowsOnly manyRows rootedRoot ownParent tooWide rootedRow unknownParentRow
     smallest mostColumns mostRows widest lateAndLarge largeAndRooted ownParentAndWide wideAndLong longAndRooted
     rowThenTable rowThenByte inLine forked below offsetsBy12 deepest memberOf targetCode leftSideCode rightSideCode

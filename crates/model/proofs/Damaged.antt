@@ -225,6 +225,7 @@ damages =
       extentOffset = record { code = refl; alone = refl };
       extentHead = record { code = refl; alone = refl };
       extentRows = record { code = refl; alone = refl };
+      extentGap = record { code = refl; alone = refl };
       extentLeft = record { code = refl; alone = refl };
       columnsMany = record { code = refl; alone = refl };
       rowsMany = many-rows;
@@ -233,6 +234,8 @@ damages =
       visibleMany = record { code = refl; alone = refl };
       parentOfRootRow = record { code = refl; alone = refl };
       parentRowUnknown = record { code = refl; alone = refl };
+      notBeside = λ o. let z : _≡_ {A = ℕ} 2 1 = ap length (o .alone) in absurd (omega arith);
+      notAnother = λ o. let z : _≡_ {A = ℕ} 2 3 = o .code in absurd (omega arith);
     }
 
 pub at-the-bounds : AtTheBounds

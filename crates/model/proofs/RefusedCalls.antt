@@ -1,7 +1,19 @@
 -- The refused calls are refused with their numbers, for no other ground than stated: by computation on the bytes.
-use mathlib.Core.Path.{refl}
-use Rattle.model.specs.RefusedCalls.{RefusedQuestions, RefusedListings, RefusedLists}
+use Prim.Native.Nat.{ℕ}
+use mathlib.Core.Path.{_≡_, refl, ap}
+use native.Mathlib.Omega.{arith}
+use lib.ListN.{length}
+use Rattle.model.specs.RefusedCalls.{OneGround, RefusedQuestions, RefusedListings, RefusedLists}
 use Rattle.model.proofs.Computes.{computes}
+
+pub one-ground : OneGround
+unfolding computes
+one-ground =
+    record {
+      one = record { code = refl; alone = refl };
+      otherCode = λ o. let z : _≡_ {A = ℕ} 9 8 = o .code in absurd (omega arith);
+      groundBeside = λ o. let z : _≡_ {A = ℕ} 2 1 = ap length (o .alone) in absurd (omega arith);
+    }
 
 pub refused-questions : RefusedQuestions
 unfolding computes
@@ -9,10 +21,14 @@ refused-questions =
     record {
       unknownTable = record { code = refl; alone = refl };
       lastTable = refl;
+      pastOneTable = refl;
+      fourthTable = refl;
+      pastFourTables = refl;
       unknownColumn = record { code = refl; alone = refl };
       allColumns = refl;
       inheritedRight = record { code = refl; alone = refl };
       unknownRight = record { code = refl; alone = refl };
+      rightBelow = record { code = refl; alone = refl };
       almostRow = record { code = refl; alone = refl };
       aboveRow = record { code = refl; alone = refl };
       firstOwn = refl;
@@ -68,6 +84,7 @@ refused-lists =
       tooNear = record { code = refl; alone = refl };
       farEnough = refl;
       aboveTheLength = record { code = refl; alone = refl };
+      lostBytes = refl;
       atTheLength = refl;
       target16 = record { code = refl; alone = refl };
       target15 = refl;

@@ -16,7 +16,7 @@ use Rattle.model.specs.List.{ListMeaning}
 use Rattle.model.specs.Text.{tooLong, refusedLine, listingText, answerText}
 use Rattle.model.specs.Album.{album, twins}
 use Rattle.model.specs.Line.{inLine}
-use Rattle.model.specs.Replies.{QuestionReplies, ListReplies, PackedReplies, TextReplies}
+use Rattle.model.specs.Replies.{QuestionReplies, CallParts, ListReplies, PackedReplies, TextReplies}
 use Rattle.model.specs.declared.Entry.{Entry}
 use Rattle.model.proofs.Grounds.{orElse-next}
 use Rattle.model.proofs.Complete.{after-none}
@@ -30,6 +30,10 @@ question-replies =
       k2 = refl;
       k3 = refl;
       noKey = refl;
+      k4 = refl;
+      k5 = refl;
+      k6 = refl;
+      k8 = refl;
       refused8 = refl;
       refused9 = refl;
       refused10 = refl;
@@ -45,7 +49,26 @@ question-replies =
       pairRefused11 = refl;
       pairRefused6 = refl;
       zeroed = refl;
+      zeroedThree = refl;
       kept = λ n ground. ifEq-no (0 ∷ 0 ∷ []) ground;
+    }
+
+pub call-parts : CallParts
+call-parts =
+    record {
+      place = refl;
+      budget = refl;
+      run = refl;
+      work = refl;
+      reply = refl;
+      runThen = refl;
+      workThen = refl;
+      placeHeld = refl;
+      passed = refl;
+      count = refl;
+      placeKept = refl;
+      nonePassed = refl;
+      noneCounted = refl;
     }
 
 -- with words enough, the grounds against a listing call are those of its place and of its run
@@ -67,6 +90,7 @@ pub list-replies : ListReplies
 unfolding computes
 list-replies =
     record {
+      blankTable = refl;
       whole = λ work w. enough album _ refl w (record { reply = refl; run = refl; work = refl });
       exactly = λ work w. enough album _ refl w (record { reply = refl; run = refl; work = refl });
       budgetLeft = λ work w. enough album _ refl w (record { reply = refl; run = refl; work = refl });
@@ -83,6 +107,7 @@ list-replies =
       refused11 = record { reply = refl; run = refl; work = refl };
       refused6 = record { reply = refl; run = refl; work = refl };
       zeroed = refl;
+      zeroedThree = refl;
       zeroed13 = refl;
       kept = λ n answer full. ifEq-no (0 ∷ 0 ∷ []) answer ∙ ifEq-no (0 ∷ 0 ∷ []) full;
     }

@@ -21,10 +21,10 @@ use Rattle.model.specs.Text.{answerText}
 use Rattle.model.specs.Album.{album, albumLines, noRows, oneMissing, bothMissing, equalRows, twoGroups}
 use Rattle.model.specs.Album.{parted, lostAbove, twoKeys, twins}
 use Rattle.model.specs.Damaged.{tooWide, Damages, AtTheBounds, DamageOrder}
-use Rattle.model.specs.RefusedCalls.{RefusedQuestions, RefusedListings, RefusedLists}
+use Rattle.model.specs.RefusedCalls.{OneGround, RefusedQuestions, RefusedListings, RefusedLists}
 use Rattle.model.specs.Supplied.{Supplied}
 use Rattle.model.specs.Line.{Line, Fork, Depth}
-use Rattle.model.specs.Replies.{QuestionReplies, ListReplies, PackedReplies, TextReplies}
+use Rattle.model.specs.Replies.{QuestionReplies, CallParts, ListReplies, PackedReplies, TextReplies}
 use Rattle.model.specs.Values.{BoundValues, ByteOrder, RefusalNumbers, AnswerValues}
 use Rattle.model.specs.declared.Entry.{Entry}
 
@@ -106,6 +106,7 @@ pub record Cases : Type 0 where
   pub damages : Damages
   pub atTheBounds : AtTheBounds
   pub damageOrder : DamageOrder
+  pub oneGround : OneGround
   pub refusedQuestions : RefusedQuestions
   pub refusedListings : RefusedListings
   pub refusedLists : RefusedLists
@@ -113,6 +114,7 @@ pub record Cases : Type 0 where
   pub supplied : Supplied
   -- specs/Replies.antt: replies, and lent memory afterwards
   pub questionReplies : QuestionReplies
+  pub callParts : CallParts
   pub listReplies : ListReplies
   pub packedReplies : PackedReplies
   pub textReplies : TextReplies

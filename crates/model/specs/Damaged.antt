@@ -59,9 +59,13 @@ manyTables = headOf 0 noParent 0 ++ children 16 ++ trailerOf (offsetsFrom 17 0) 
 unfoldable pub longTrailer : List ℕ
 longTrailer = headOf 0 noParent 0 ++ bytes4 0 ++ (0 ∷ []) ++ bytes2 1 ++ bytes4 6
 
--- 3: the first table starts at 1; the second table has 4 bytes; a row without its code; a byte after the last table
+-- 3: the first table starts at 1; a byte between two tables; the second table has 4 bytes; a row without its code; a
+-- byte after the last table
 unfoldable pub lateTable : List ℕ
 lateTable = (0 ∷ []) ++ headOf 0 noParent 0 ++ trailerOf (1 ∷ []) 1 7
+
+unfoldable pub gap : List ℕ
+gap = headOf 0 noParent 0 ++ (0 ∷ []) ++ headOf 0 0 0 ++ trailerOf (0 ∷ 7 ∷ []) 2 13
 
 unfoldable pub shortHead : List ℕ
 shortHead = headOf 0 noParent 0 ++ bytes2 0 ++ bytes2 0 ++ trailerOf (0 ∷ 6 ∷ []) 2 10
@@ -109,6 +113,7 @@ pub record Damages : Type 0 where
   pub tablesMany : Only manyTables 2
   pub trailerLong : Only longTrailer 2
   pub extentOffset : Only lateTable 3
+  pub extentGap : Only gap 3
   -- where the 6 bytes pass the trailer, so do the rows, and the end of the last table is not the trailer's first
   -- byte: all three are 3
   pub extentHead : Refused shortHead 3 (3 ∷ 3 ∷ 3 ∷ [])
@@ -123,6 +128,9 @@ pub record Damages : Type 0 where
   pub visibleMany : Only tooWide 6
   pub parentOfRootRow : Only rootedRow 7
   pub parentRowUnknown : Only unknownParentRow 7
+  -- what this says: neither another number nor a ground beside the one is allowed
+  pub notBeside : Only noTable 2 → ⊥
+  pub notAnother : Refused noTable 3 (2 ∷ 3 ∷ []) → ⊥
 
 -- files at the bounds: 16 bytes; 16 columns; 4,096 rows; 15 columns and one more in a table below. 16 tables:
 -- `deepest` of specs/Line.antt

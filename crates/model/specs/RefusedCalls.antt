@@ -17,15 +17,22 @@ use Rattle.model.specs.List.{listCode}
 use Rattle.model.specs.Entries.{entriesCode}
 use Rattle.model.specs.Packing.{outputCode, packCode, packed}
 use Rattle.model.specs.Reading.{entriesHeld, readCode, tailCode}
-use Rattle.model.specs.Album.{album}
+use Rattle.model.specs.Album.{album, noRows}
 use Rattle.model.specs.Damaged.{notZero, cut, noTable, lateTable, manyColumns, ownParent, tooWide}
 use Rattle.model.specs.Damaged.{unknownParentRow}
+use Rattle.model.specs.Line.{inLine}
 use Rattle.model.specs.declared.Entry.{Entry}
 
 -- a call with code c is refused with the number, which is the only one among the grounds against it
 pub record OnlyOf (c : ℕ) (grounds : List ℕ) (n : ℕ) : Type 0 where
   pub code : c ≡ n
   pub alone : notZero grounds ≡ n ∷ []
+
+-- what this says: neither another number nor a ground beside the one is allowed
+pub record OneGround : Type 0 where
+  pub one : OnlyOf 8 (0 ∷ 8 ∷ 0 ∷ []) 8
+  pub otherCode : OnlyOf 9 (8 ∷ []) 8 → ⊥
+  pub groundBeside : OnlyOf 8 (8 ∷ 9 ∷ []) 8 → ⊥
 
 -- the grounds against a question, a listing call, a reading and a packing, by number
 abbrev pub AskOnly : List ℕ → ℕ → ℕ → ℕ → ℕ → ℕ → Type 0
@@ -53,12 +60,17 @@ pub record RefusedQuestions : Type 0 where
   -- 8: the album has tables 0 and 1
   pub unknownTable : AskOnly album 2 0 row 16384 8
   pub lastTable : questionCode album 1 0 row 16384 ≡ 0
+  pub pastOneTable : questionCode noRows 1 0 row 16384 ≡ 8
+  pub fourthTable : questionCode inLine 3 0 row 16384 ≡ 0
+  pub pastFourTables : questionCode inLine 4 0 row 16384 ≡ 8
   -- 9: table 1 has visible columns 0 to 2
   pub unknownColumn : AskOnly album 1 8 row 16384 9
   pub allColumns : questionCode album 1 7 row 16384 ≡ 0
-  -- 10: its own columns are 1 and 2; 0 is inherited, 3 is no column, and 254 and 256 are not the row
+  -- 10: its own columns are 1 and 2; 0 is inherited, 3 is no column, and 254 and 256 are not the row; the root's
+  -- only column is 0
   pub inheritedRight : AskOnly album 1 0 0 16384 10
   pub unknownRight : AskOnly album 1 0 3 16384 10
+  pub rightBelow : AskOnly album 0 0 1 16384 10
   pub almostRow : AskOnly album 1 0 254 16384 10
   pub aboveRow : AskOnly album 1 0 256 16384 10
   pub firstOwn : questionCode album 1 0 1 16384 ≡ 0
@@ -124,6 +136,7 @@ pub record RefusedLists : Type 0 where
   pub tooNear : ReadOnly (bytes4 0 ++ bytes4 0 ++ bytes4 0) 14
   pub farEnough : readCode (bytes4 0 ++ bytes4 0 ++ bytes4 8) ≡ 0
   pub aboveTheLength : ReadOnly lostEntry 14
+  pub lostBytes : lostEntry ≡ 1 ∷ 0 ∷ 0 ∷ 0 ∷ 12 ∷ 0 ∷ 0 ∷ 0 ∷ []
   pub atTheLength : readCode (packed (entry 1 0 1 ∷ [])) ≡ 0
   -- 15: target over 15
   pub target16 : PackOnly (entry 16 0 row ∷ []) 12 15

@@ -11,22 +11,29 @@ use Rattle.model.specs.Question.{askMeaning, pairMeaning}
 use Rattle.model.specs.Entry.{entry}
 use Rattle.model.specs.Calls.{workAfter, seen}
 use Rattle.model.specs.List.{ListMeaning}
+use Rattle.model.specs.Demand.{held, setsPassed, entryCount}
 use Rattle.model.specs.Packing.{packed, packMeaning, outputAfter}
 use Rattle.model.specs.Reading.{openMeaning, entriesRead, frontRead, readMeaning, runRead, readAt}
 use Rattle.model.specs.Text.{decimal, entryLine, refusedLine, answerText}
-use Rattle.model.specs.Album.{album, noRows, oneMissing, twins, twoGroups}
+use Rattle.model.specs.Album.{album, noRows, oneMissing, bothMissing, twins, twoGroups}
 use Rattle.model.specs.Damaged.{cut, tooWide}
 use Rattle.model.specs.Line.{inLine}
 use Rattle.model.specs.RefusedCalls.{lostEntry}
 use Rattle.model.specs.declared.Entry.{Entry}
 use Rattle.model.specs.declared.ReadAnswer.the-variants.{Next, End}
 
--- K1 and K2 as questions and as pairs, table 1's keys, the first of several pairs, and refused ones
+-- K1 to K6 and K8 as questions, K1 and K2 as pairs, the first of several pairs, and refused ones
 pub record QuestionReplies : Type 0 where
   pub k1 : askMeaning album 1 1 2 16384 ≡ answered (1 ∷ [])
   pub k2 : askMeaning album 1 2 2 16384 ≡ answered (0 ∷ [])
   pub k3 : askMeaning album 1 6 row 16384 ≡ answered (1 ∷ [])
   pub noKey : askMeaning album 1 1 row 16384 ≡ answered (0 ∷ [])
+  -- of the root: its column is not given by the empty set, and is given by itself, which is not listed
+  pub k4 : askMeaning album 0 0 0 16384 ≡ answered (0 ∷ [])
+  pub k5 : askMeaning album 0 1 0 16384 ≡ answered (1 ∷ [])
+  -- keys that hold and are not listed
+  pub k6 : askMeaning noRows 0 0 row 16384 ≡ answered (1 ∷ [])
+  pub k8 : askMeaning bothMissing 0 1 row 16384 ≡ answered (1 ∷ [])
   pub refused8 : askMeaning album 2 1 2 16384 ≡ refused 8
   pub refused9 : askMeaning album 1 8 row 16384 ≡ refused 9
   pub refused10 : askMeaning album 1 0 0 16384 ≡ refused 10
@@ -46,11 +53,29 @@ pub record QuestionReplies : Type 0 where
   pub pairRefused6 : pairMeaning tooWide 0 0 row 0 ≡ refused 6
   -- after an answer every work word is 0; after any refusal they are as they were
   pub zeroed : wordsAfter 0 (3 ∷ 1 ∷ []) ≡ 0 ∷ 0 ∷ []
+  pub zeroedThree : wordsAfter 0 (3 ∷ 1 ∷ 4 ∷ []) ≡ 0 ∷ 0 ∷ 0 ∷ []
   pub kept : (n : ℕ) → (n ≡ 0 → ⊥) → wordsAfter n (3 ∷ 1 ∷ []) ≡ 3 ∷ 1 ∷ []
 
--- a record that no call writes
+-- a record that no call writes: no catalogue of these cases has a table 9
 abbrev pub blank : Entry
 blank = entry 9 9 9
+
+-- a call as seen has what it was handed, its reply and what it left, each in its place; and what demand 3 reads off a
+-- reply: the place held, the sets passed and the entry count
+pub record CallParts : Type 0 where
+  pub place : seen 3 5 (blank ∷ []) (7 ∷ []) (refused 13) [] (8 ∷ []) .place ≡ 3
+  pub budget : seen 3 5 (blank ∷ []) (7 ∷ []) (refused 13) [] (8 ∷ []) .budget ≡ 5
+  pub run : seen 3 5 (blank ∷ []) (7 ∷ []) (refused 13) [] (8 ∷ []) .run ≡ blank ∷ []
+  pub work : seen 3 5 (blank ∷ []) (7 ∷ []) (refused 13) [] (8 ∷ []) .work ≡ 7 ∷ []
+  pub reply : seen 3 5 (blank ∷ []) (7 ∷ []) (refused 13) [] (8 ∷ []) .reply ≡ refused 13
+  pub runThen : seen 3 5 (blank ∷ []) (7 ∷ []) (refused 13) [] (8 ∷ []) .runThen ≡ []
+  pub workThen : seen 3 5 (blank ∷ []) (7 ∷ []) (refused 13) [] (8 ∷ []) .workThen ≡ 8 ∷ []
+  pub placeHeld : held 3 (answered (9 ∷ 5 ∷ 1 ∷ [])) ≡ 9
+  pub passed : setsPassed (answered (9 ∷ 5 ∷ 1 ∷ [])) ≡ 5
+  pub count : entryCount (answered (9 ∷ 5 ∷ 1 ∷ [])) ≡ 1
+  pub placeKept : held 3 (refused 13) ≡ 3
+  pub nonePassed : setsPassed (refused 13) ≡ 0
+  pub noneCounted : entryCount (refused 13) ≡ 0
 
 -- so it is with whatever words, at least 16,384; afterwards they are all 0, or as they were
 abbrev pub ListZeroes : List ℕ → ℕ → ℕ → List Entry → Reply → List Entry → Type 0
@@ -64,6 +89,7 @@ ListKeeps cat place budget run reply runThen =
 
 -- the album's sets have an entry each at the places 3, 6 and 8
 pub record ListReplies : Type 0 where
+  pub blankTable : blank .target ≡ 9
   -- all in one call, with a record more than entries, and with as many
   pub whole : ListZeroes album 0 10 (blank ∷ blank ∷ blank ∷ blank ∷ []) (answered (10 ∷ 10 ∷ 3 ∷ []))
       (entry 1 1 2 ∷ entry 1 3 row ∷ entry 1 6 row ∷ blank ∷ [])
@@ -91,7 +117,8 @@ pub record ListReplies : Type 0 where
   pub refused6 : ListMeaning tooWide (seen 0 10 (blank ∷ []) (3 ∷ 1 ∷ []) (refused 6) (blank ∷ []) (3 ∷ 1 ∷ []))
   -- the words afterwards, by the code: 0 after an answer and after 13, as they were after any other refusal
   pub zeroed : workAfter 0 (3 ∷ 1 ∷ []) ≡ 0 ∷ 0 ∷ []
-  pub zeroed13 : workAfter 13 (3 ∷ 1 ∷ []) ≡ 0 ∷ 0 ∷ []
+  pub zeroedThree : workAfter 0 (3 ∷ 1 ∷ 4 ∷ []) ≡ 0 ∷ 0 ∷ 0 ∷ []
+  pub zeroed13 : workAfter 13 (3 ∷ 1 ∷ 4 ∷ []) ≡ 0 ∷ 0 ∷ 0 ∷ []
   pub kept : (n : ℕ) → (n ≡ 0 → ⊥) → (n ≡ 13 → ⊥) → workAfter n (3 ∷ 1 ∷ []) ≡ 3 ∷ 1 ∷ []
 
 -- three entries, two of the album and one with a left over one byte, and their 20 bytes

@@ -51,12 +51,13 @@ CallOnly cat file bytes =
 abbrev pub AlbumOnly : List ℕ → List ℕ → ℕ → Type 0
 AlbumOnly = CallOnly album
 
--- the album's list with one more record
+-- the album's list with one more record: refused, and accepted as 7
 abbrev pub MoreOnly : Evidence → ℕ → Type 0
 MoreOnly e = AlbumOnly albumList (albumEvidence ++ recordsBytes (e ∷ []))
 
-abbrev pub moreCode : Evidence → ℕ
-moreCode e = verifyCode album albumList (albumEvidence ++ recordsBytes (e ∷ []))
+abbrev pub AcceptedWith : Evidence → Type 0
+AcceptedWith e =
+    verifyMeaning album albumList (albumEvidence ++ recordsBytes (e ∷ [])) ≡ answered (3 ∷ 7 ∷ [])
 
 -- another list with the album's evidence, and with other records
 abbrev pub ListedOnly : List Entry → ℕ → Type 0
@@ -100,7 +101,7 @@ pub record Supplied : Type 0 where
   pub repeated : verifyMeaning album albumList (albumEvidence ++ albumEvidence) ≡ answered (3 ∷ 12 ∷ [])
   pub reordered : verifyMeaning album albumList (drop 24 albumEvidence ++ take 24 albumEvidence)
       ≡ answered (3 ∷ 6 ∷ [])
-  pub exchanged : moreCode (evidence 1 2 2 2 0) ≡ 0
+  pub exchanged : AcceptedWith (evidence 1 2 2 2 0)
   -- a record has 8 bytes: target, right, set, first row, second row
   pub bytes : recordsBytes (evidence 1 258 3 772 1286 ∷ []) ≡ 1 ∷ 3 ∷ 2 ∷ 1 ∷ 4 ∷ 3 ∷ 6 ∷ 5 ∷ []
   pub readBack : recordsHeld albumEvidence ≡ albumRecords
@@ -136,8 +137,8 @@ pub record Supplied : Type 0 where
   pub unknownRight : MoreOnly (evidence 1 0 3 0 2) 17
   pub firstBeyond : MoreOnly (evidence 1 0 row 4 0) 17
   pub secondBeyond : MoreOnly (evidence 1 0 row 0 4) 17
-  pub lastRows : moreCode (evidence 1 0 row 3 2) ≡ 0
-  pub lastRowsExchanged : moreCode (evidence 1 0 row 2 3) ≡ 0
+  pub lastRows : AcceptedWith (evidence 1 0 row 3 2)
+  pub lastRowsExchanged : AcceptedWith (evidence 1 0 row 2 3)
   pub rightInSet : MoreOnly (evidence 1 2 1 0 1) 17
   pub notAgreed : MoreOnly (evidence 1 4 row 0 2) 17
   pub alsoAgreed : MoreOnly (evidence 1 0 2 0 1) 17

@@ -9,6 +9,8 @@ use Rattle.model.specs.Bytes.{byteAt, u16At, u32At, bytes2, bytes4, Byte
 use Rattle.model.specs.Refusal.{number, lastRefusal, orElse, firstOf}
 use Rattle.model.specs.Reply.{Reply, refused, answered, replyOf, checkReply, askReply, pairReply, listReply}
 use Rattle.model.specs.Reply.{packReply, openReply, entriesReply, verifyReply}
+use Rattle.model.specs.Catalogue.{cell}
+use Rattle.model.specs.Encode.{content, encode}
 use Rattle.model.specs.Album.{album}
 use Rattle.model.specs.declared.Refusal.{Refusal}
 use Rattle.model.specs.declared.Refusal.the-variants.{FileTooShort, BadTrailer, BadExtent, TableTooLarge}
@@ -49,6 +51,8 @@ pub record ByteOrder : Type 0 where
   -- a byte is below 256
   pub bytes : Bytes (0 ∷ 255 ∷ [])
   pub notBytes : Bytes (256 ∷ []) → ⊥
+  -- a cell has all 4 bytes of its code
+  pub codeBytes : cell (encode (content 1 noParent ((noParent, 67305985 ∷ []) ∷ []) ∷ [])) 0 0 0 ≡ 67305985
   -- the album's table 0: columns, parent table, rows, and its rows 5, 5 and missing
   pub albumRoot : take 24 album
       ≡ 1 ∷ 0 ∷ 255 ∷ 255 ∷ 3 ∷ 0
@@ -84,26 +88,26 @@ pub record RefusalNumbers : Type 0 where
   pub uncoveredSet : number UncoveredSet ≡ 19
   pub last : _≡_ {A = ℕ} lastRefusal 19
 
--- a refusal returns its number alone, an answer its values
+-- a refusal returns its number alone, an answer its values, whatever they are
 pub record AnswerValues : Type 0 where
   pub noGround : replyOf 0 (7 ∷ []) ≡ answered (7 ∷ [])
   pub aGround : (n : ℕ) → (n ≡ 0 → ⊥) → replyOf n (7 ∷ []) ≡ refused n
   -- the check: tables, and sets over all targets
-  pub sound : checkReply (check-answer.Sound 2 10) ≡ answered (2 ∷ 10 ∷ [])
+  pub sound : (t s : ℕ) → checkReply (check-answer.Sound t s) ≡ answered (t ∷ s ∷ [])
   -- the question: 1 for 'holds', 0 for 'breaks'
   pub holds : askReply ask-answer.Holds ≡ answered (1 ∷ [])
   pub breaks : askReply ask-answer.Breaks ≡ answered (0 ∷ [])
   -- the pair: lower row first, or none
-  pub rows : pairReply (pair-answer.Rows 0 2) ≡ answered (0 ∷ 2 ∷ [])
+  pub rows : (p q : ℕ) → pairReply (pair-answer.Rows p q) ≡ answered (p ∷ q ∷ [])
   pub none : pairReply pair-answer.Nothing ≡ answered []
   -- the listing: next place, sets passed, entry count
-  pub listed : listReply (list-answer.Listed 6 5 1) ≡ answered (6 ∷ 5 ∷ 1 ∷ [])
+  pub listed : (p k c : ℕ) → listReply (list-answer.Listed p k c) ≡ answered (p ∷ k ∷ c ∷ [])
   -- packing: bytes written; opening: entries and bytes in front; reading: entries read
-  pub packed : packReply (pack-answer.Packed 20) ≡ answered (20 ∷ [])
-  pub opened : openReply (open-answer.Opened 3 2) ≡ answered (3 ∷ 2 ∷ [])
-  pub read : entriesReply (entries-answer.Read 3) ≡ answered (3 ∷ [])
+  pub packed : (n : ℕ) → packReply (pack-answer.Packed n) ≡ answered (n ∷ [])
+  pub opened : (k n : ℕ) → openReply (open-answer.Opened k n) ≡ answered (k ∷ n ∷ [])
+  pub read : (k : ℕ) → entriesReply (entries-answer.Read k) ≡ answered (k ∷ [])
   -- the check by evidence: entries, and records
-  pub accepted : verifyReply (verify-answer.Accepted 3 6) ≡ answered (3 ∷ 6 ∷ [])
+  pub accepted : (k n : ℕ) → verifyReply (verify-answer.Accepted k n) ≡ answered (k ∷ n ∷ [])
   -- and each refused
   pub notSound : (r : Refusal) → checkReply (check-answer.Refused r) ≡ refused (number r)
   pub notAsked : (r : Refusal) → askReply (ask-answer.Refused r) ≡ refused (number r)

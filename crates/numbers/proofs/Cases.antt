@@ -19,6 +19,7 @@ number-cases =
       keptSecond = refl;
       kept = refl;
       accepted = refl;
+      noValue = refl;
       notAccepted = refl;
       listed = refl;
       notListed = refl;

@@ -25,6 +25,7 @@ pub record NumberCases : Type 0 where
   pub kept : valueOr 0 9 (refused 8) ≡ 9
   -- the check by evidence: the entry count
   pub accepted : numberOf 0 (answered (3 ∷ 6 ∷ [])) ≡ pos 3
+  pub noValue : numberOf 0 (answered []) ≡ pos 0
   pub notAccepted : numberOf 0 (refused 19) ≡ negsuc 18
   -- the listing: the entry count, with the place reached and the sets passed behind the pointers
   pub listed : listSeen (pos 3) 10 7 ≡ answered (10 ∷ 7 ∷ 3 ∷ [])
