@@ -26,7 +26,7 @@ use Rattle.model.specs.Damaged.{groundsFrom, notZero, grounds, cut, noTa
 use Rattle.model.specs.Damaged.{longTrailer, lateTable, gap, shortHead, shortRow, leftByte, manyColumns, rowsOnly}
 use Rattle.model.specs.Damaged.{manyRows, rootedRoot, ownParent, tooWide, rootedRow, unknownParentRow, smallest}
 use Rattle.model.specs.Damaged.{mostColumns, mostRows, widest, lateAndLarge, largeAndRooted, ownParentAndWide}
-use Rattle.model.specs.Damaged.{wideAndLong, longAndRooted, rowThenTable, rowThenByte}
+use Rattle.model.specs.Damaged.{wideAndLong, longAndRooted, rowThenTable, rowThenByte, rowThenGap}
 use Rattle.model.specs.Line.{inLine, forked, below, offsetsBy12, deepest}
 use Rattle.columns.specs.Set.{memberOf, withinOf}
 use Rattle.model.specs.Question.{targetCode, leftSideCode, rightSideCode, sidesCode, wordsCode, questionCode}
@@ -61,8 +61,8 @@ unfolding ones onesIn ifEq ifLt ifLe withoutOf inOrder bySizeFrom ofSize ofSizeF
     twoKeys twins groundsFrom notZero grounds cut noTable children offsetsFrom manyTables longTrailer lateTable gap
     shortHead shortRow leftByte manyColumns rowsOnly manyRows rootedRoot ownParent tooWide rootedRow unknownParentRow
     smallest mostColumns mostRows widest lateAndLarge largeAndRooted ownParentAndWide wideAndLong longAndRooted
-    rowThenTable rowThenByte inLine forked below offsetsBy12 deepest memberOf targetCode leftSideCode rightSideCode
-    sidesCode wordsCode questionCode askMeaning pairMeaning passed written placeCode roomCode callCode runAfter
+    rowThenTable rowThenByte rowThenGap inLine forked below offsetsBy12 deepest memberOf targetCode leftSideCode
+    rightSideCode sidesCode wordsCode questionCode askMeaning pairMeaning passed written placeCode roomCode callCode runAfter
     workAfter firstCode earlier tailCode bytesOf entryAt countIn distanceIn entriesBytes packed entriesFrom entriesHeld
     frontOf entryCode laterCode restCode entriesCode outputCode packCode packMeaning outputAfter readCode openMeaning
     entriesRead frontRead readFrom readMeaning runRead readAt emptyList lostEntry recordBytes recordAt recordsBytes

@@ -254,5 +254,6 @@ damage-order =
       sixBefore3 = record { code = refl; alone = refl };
       threeBefore7 = record { code = refl; alone = refl };
       tableByTable = record { code = refl; alone = refl };
+      offsetsInTurn = record { code = refl; alone = refl };
       leftBytesLast = record { code = refl; alone = refl };
     }

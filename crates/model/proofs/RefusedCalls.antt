@@ -32,6 +32,8 @@ refused-questions =
       almostRow = record { code = refl; alone = refl };
       aboveRow = record { code = refl; alone = refl };
       firstOwn = refl;
+      ownOfThird = refl;
+      inheritedOfThird = record { code = refl; alone = refl };
       lastOwn = refl;
       fewWords = record { code = refl; alone = refl };
       noWords = record { code = refl; alone = refl };

@@ -34,6 +34,7 @@ question-replies =
       k5 = refl;
       k6 = refl;
       k8 = refl;
+      groups = refl;
       refused8 = refl;
       refused9 = refl;
       refused10 = refl;

@@ -1,5 +1,5 @@
--- Agreement of a target's rows is an equivalence, for any bytes. A missing cell agrees only with itself, and with
--- itself it does agree.
+-- Agreement of a target's rows is an equivalence, for any bytes. A missing cell agrees only with itself
+-- (`missing-alone`), and with itself it does agree.
 use Prim.Native.Nat.{ℕ, _-_}
 use mathlib.Core.Path.{_≡_, refl, sym, ap, _∙_}
 use mathlib.Core.Logic.{_⊎_, inl, inr}
@@ -9,7 +9,7 @@ use lib.Dec.{T, eqb}
 use Rattle.model.specs.Bounds.{missing}
 use Rattle.model.specs.Catalogue.{cell, inherited}
 use Rattle.model.specs.View.{Equivalence}
-use Rattle.model.specs.Target.{owner, ancestor, cellsAgree, agreeAt, view}
+use Rattle.model.specs.Target.{owner, ancestor, cellsAgree, agreeAt, presentAt, view}
 use Rattle.model.proofs.Truth.{and-is, or-is, not-is, eqb-is}
 
 -- what two cells that agree say, as a proposition
@@ -55,6 +55,32 @@ module _ (f : ℕ → ℕ) where
       at (inl e) (inr k) = inr (λ m. k .0 (sym (ap f e) ∙ m), ap f e ∙ k .1)
       at (inr h) (inl g) = inr (h .0, h .1 ∙ ap f g)
       at (inr h) (inr k) = inr (h .0, h .1 ∙ k .1)
+
+-- where the cell of a visible column is missing in a row, only rows that reach the same row of the column's table agree
+-- with it there
+pub missing-alone : (cat : List ℕ) (target v p q : ℕ) → (T (presentAt cat target v p) → ⊥)
+    → T (agreeAt cat target v p q)
+    → ancestor cat (owner cat target v) target p ≡ ancestor cat (owner cat target v) target q
+unfolding agreeAt presentAt
+missing-alone cat target v p q lacks t = at (alike x y (cell cat a x c) (cell cat a y c) t)
+  where
+    a : ℕ
+    a = owner cat target v
+
+    c : ℕ
+    c = v - inherited cat a
+
+    x : ℕ
+    x = ancestor cat a target p
+
+    y : ℕ
+    y = ancestor cat a target q
+
+    at : CellsAlike x y (cell cat a x c) (cell cat a y c) → x ≡ y
+    at (inl e) = e
+    at (inr h) =
+        absurd
+        (lacks (not-is (eqb (cell cat a x c) missing) .1 (λ m. h .0 (eqb-is (cell cat a x c) missing .0 m))))
 
 pub view-equivalence : (cat : List ℕ) (i : ℕ) → Equivalence (view cat i)
 unfolding agreeAt

@@ -1,9 +1,10 @@
 -- The proved cases, as one table: K1 to K11 of document 01, what it says of the album, the first of several breaking
--- pairs (document 02, a), and the tables of the other files by subject. Left sides are numbers: {0} is 1, {1} is 2,
+-- pairs, what rows back and what keys stand for (document 02, a, d and e), and the tables of the other files by subject. Left sides are numbers: {0} is 1, {1} is 2,
 -- {1, 2} is 6.
 use Prim.Native.Nat.{ℕ, _≤_}
 use mathlib.Core.Path.{_≡_}
 use mathlib.Core.List.{[], _∷_, List·Memᴰ}
+use mathlib.Core.Bool.{false}
 use lib.ListN.{length}
 use Rattle.columns.specs.Order.{Precedes, inOrder}
 use Rattle.model.specs.Bounds.{workBound, row}
@@ -12,7 +13,7 @@ use Rattle.model.specs.Catalogue.{visible}
 use Rattle.model.specs.Check.{Accepted, checkMeaning}
 use Rattle.model.specs.View.{Holds, Key, Breaks, Minimal, Backed}
 use Rattle.model.specs.Pair.{FirstPair}
-use Rattle.model.specs.Target.{view}
+use Rattle.model.specs.Target.{view, presentAt}
 use Rattle.model.specs.Entry.{entry}
 use Rattle.model.specs.Listing.{cells, ordinary}
 use Rattle.model.specs.Calls.{flat, Seen}
@@ -43,10 +44,12 @@ pub record Cases : Type 0 where
   pub k6 : Key (view noRows 0) 0 × (List·Memᴰ (entry 0 0 row) (flat (cells (ordinary noRows))) → ⊥)
   -- K7 one row with a missing cell: the empty set gives its column, unlisted, since it is a key (document 02, e)
   pub k7 : Holds (view oneMissing 0) 0 0 × (List·Memᴰ (entry 0 0 0) (flat (cells (ordinary oneMissing))) → ⊥)
+  pub k7Missing : presentAt oneMissing 0 0 0 ≡ false
   -- K8 two rows, both cells missing: {0} gives the row, unlisted (document 02, d)
   pub k8 : Key (view bothMissing 0) 1 × (List·Memᴰ (entry 0 1 row) (flat (cells (ordinary bothMissing))) → ⊥)
   -- K9 two equal rows under one parent, all cells present: no key
   pub k9 : (x : ℕ) → Key (view equalRows 1) x → ⊥
+  pub k9Present : Backed (view equalRows 1) 3
   -- K10 table 1, left 4 precedes left 3
   pub k10 : Precedes 4 3 × (inOrder (visible album 1) ≡ 0 ∷ 1 ∷ 2 ∷ 4 ∷ 3 ∷ 5 ∷ 6 ∷ 7 ∷ [])
   -- K11 place 10 returns 10 and no entry: whatever the budget and the run, with words enough

@@ -1,5 +1,5 @@
--- Damaged catalogues, one for each ground of the refusals 1 to 7, and all grounds in each: wherever it can be, the
--- one that the file is refused for is the only one. Then files at the bounds, which are accepted, and files with
+-- Damaged catalogues, one for each ground of the refusals 1 to 7, and all grounds in each: wherever a small file
+-- has it so, the one that it is refused for is the only one. Then files at the bounds, which are accepted, and files with
 -- several faults, for the order of refusals.
 use Prim.Native.Nat.{ℕ, zero, suc, _+_, _*_}
 use mathlib.Core.Path.{_≡_}
@@ -178,6 +178,9 @@ rowThenTable = headOf 0 noParent 1 ++ rowOf 0 [] ++ headOf 0 1 0 ++ trailerOf (0
 unfoldable pub rowThenByte : List ℕ
 rowThenByte = headOf 0 noParent 1 ++ rowOf 0 [] ++ (0 ∷ []) ++ trailerOf (0 ∷ []) 1 9
 
+unfoldable pub rowThenGap : List ℕ
+rowThenGap = headOf 0 noParent 1 ++ rowOf 0 [] ++ (0 ∷ []) ++ headOf 0 0 0 ++ trailerOf (0 ∷ 9 ∷ []) 2 15
+
 pub record DamageOrder : Type 0 where
   -- 1 before 2: 15 bytes without a sound trailer
   pub oneBefore2 : (sizeCode cut ≡ 1) × (trailerCode cut ≡ 2) × (checkCode cut ≡ 1)
@@ -192,4 +195,5 @@ pub record DamageOrder : Type 0 where
   pub threeBefore7 : Refused longAndRooted 3 (3 ∷ 7 ∷ 3 ∷ [])
   -- table by table, and left bytes last
   pub tableByTable : Refused rowThenTable 7 (7 ∷ 5 ∷ [])
+  pub offsetsInTurn : Refused rowThenGap 7 (7 ∷ 3 ∷ [])
   pub leftBytesLast : Refused rowThenByte 7 (7 ∷ 3 ∷ [])

@@ -20,7 +20,7 @@ use Rattle.model.specs.Reading.{entriesHeld, readCode, tailCode}
 use Rattle.model.specs.Album.{album, noRows}
 use Rattle.model.specs.Damaged.{notZero, cut, noTable, lateTable, manyColumns, ownParent, tooWide}
 use Rattle.model.specs.Damaged.{unknownParentRow}
-use Rattle.model.specs.Line.{inLine}
+use Rattle.model.specs.Line.{inLine, forked}
 use Rattle.model.specs.declared.Entry.{Entry}
 
 -- a call with code c is refused with the number, which is the only one among the grounds against it
@@ -74,6 +74,9 @@ pub record RefusedQuestions : Type 0 where
   pub almostRow : AskOnly album 1 0 254 16384 10
   pub aboveRow : AskOnly album 1 0 256 16384 10
   pub firstOwn : questionCode album 1 0 1 16384 ≡ 0
+  -- table 2 of two under one root inherits one column
+  pub ownOfThird : questionCode forked 2 0 1 16384 ≡ 0
+  pub inheritedOfThird : AskOnly forked 2 0 0 16384 10
   pub lastOwn : questionCode album 1 0 2 16384 ≡ 0
   -- 11: one word too few, and no word
   pub fewWords : AskOnly album 1 1 2 16383 11

@@ -34,6 +34,8 @@ pub record QuestionReplies : Type 0 where
   -- keys that hold and are not listed
   pub k6 : askMeaning noRows 0 0 row 16384 ≡ answered (1 ∷ [])
   pub k8 : askMeaning bothMissing 0 1 row 16384 ≡ answered (1 ∷ [])
+  -- of a root without a table below it: the pairs are below
+  pub groups : askMeaning twoGroups 0 1 1 16384 ≡ answered (0 ∷ [])
   pub refused8 : askMeaning album 2 1 2 16384 ≡ refused 8
   pub refused9 : askMeaning album 1 8 row 16384 ≡ refused 9
   pub refused10 : askMeaning album 1 0 0 16384 ≡ refused 10

@@ -30,7 +30,7 @@ pub data Reply : Type 0 where
 unfoldable pub replyOf : ℕ → List ℕ → Reply
 replyOf code values = ifEq code 0 (answered values) (refused code)
 
--- work words after a call: zeroed by an answer, as they were after a refusal
+-- work words after a question or a pair: zeroed by an answer, as they were after a refusal
 unfoldable pub wordsAfter : ℕ → List ℕ → List ℕ
 wordsAfter code words = ifEq code 0 (replicate (length words) 0) words
 

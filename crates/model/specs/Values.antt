@@ -60,8 +60,14 @@ pub record ByteOrder : Type 0 where
       ∷ 255 ∷ 255 ∷ 5 ∷ 0 ∷ 0 ∷ 0
       ∷ 255 ∷ 255 ∷ 255 ∷ 255 ∷ 255 ∷ 255
       ∷ []
-  -- its table 1: the first 6 bytes, and the row 0; 1, 7
-  pub albumBelow : take 16 (drop 24 album) ≡ 2 ∷ 0 ∷ 0 ∷ 0 ∷ 4 ∷ 0 ∷ 0 ∷ 0 ∷ 1 ∷ 0 ∷ 0 ∷ 0 ∷ 7 ∷ 0 ∷ 0 ∷ 0 ∷ []
+  -- its table 1: the first 6 bytes, and its rows 0; 1, 7. 1; 3, 7. 2; 1, 8. 2; 2, 8
+  pub albumBelow : take 46 (drop 24 album)
+      ≡ 2 ∷ 0 ∷ 0 ∷ 0 ∷ 4 ∷ 0
+      ∷ 0 ∷ 0 ∷ 1 ∷ 0 ∷ 0 ∷ 0 ∷ 7 ∷ 0 ∷ 0 ∷ 0
+      ∷ 1 ∷ 0 ∷ 3 ∷ 0 ∷ 0 ∷ 0 ∷ 7 ∷ 0 ∷ 0 ∷ 0
+      ∷ 2 ∷ 0 ∷ 1 ∷ 0 ∷ 0 ∷ 0 ∷ 8 ∷ 0 ∷ 0 ∷ 0
+      ∷ 2 ∷ 0 ∷ 2 ∷ 0 ∷ 0 ∷ 0 ∷ 8 ∷ 0 ∷ 0 ∷ 0
+      ∷ []
   -- its trailer: offsets 0 and 24, 2 tables, the trailer at 70
   pub albumTrailer : drop 70 album ≡ 0 ∷ 0 ∷ 0 ∷ 0 ∷ 24 ∷ 0 ∷ 0 ∷ 0 ∷ 2 ∷ 0 ∷ 70 ∷ 0 ∷ 0 ∷ 0 ∷ []
 

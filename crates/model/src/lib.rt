@@ -1,6 +1,6 @@
 // What a reader must believe: the declared types of every public call and, in specs/, the definitions of the
-// catalogue, of agreement, dependencies and keys, of the full listing and its calls, and of the packed list. The laws
-// about them stand in proofs/.
+// catalogue, of agreement, dependencies and keys, of the full listing and its calls, of the packed list, of the check
+// by evidence and of the listing program's text. The laws about them stand in proofs/.
 // Relies on `columns` for sets of columns and their order. Every other crate cites it.
 
 // The bounds, once in code; specs/Bounds.antt has the same numbers in the definitions. The bound on columns is

@@ -1,5 +1,4 @@
-// Not for callers: the refusals of a question: those of the check, then 8 to 10, which are a function of their own for
-// calls with other work words, then 11, by number. A ground's code is the refusal's number, or 0 where there is none.
+// Not for callers: the refusals of a question: those of the check, then 8 to 10, then 11, by number. A ground's code is the refusal's number, or 0 where there is none.
 // Relies on `grounds` for the check's grounds, on `layout` for what stands where and on `refusals` for the numbers.
 // Called by `dependency`.
 ghost use mathlib.Core.Path.{_≡_};

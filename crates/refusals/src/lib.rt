@@ -74,7 +74,7 @@ pub fn number(why: Refusal) -> u32
     }
 }
 
-// The refusal that has the number: what no other has is the first one's.
+// The refusal that has the number, from the first on to the last.
 pub fn refusal(code: u32) -> Refusal
     requires { ⌜ (Refusal·number FileTooShort ≤ code) × (code ≤ lastRefusal) ⌝ }
     ensures { λ r. ⌜ Refusal·number r ≡ code ⌝ }
