@@ -8,7 +8,7 @@ use native.Mathlib.Decide.{ℕ-discrete, decLt}
 use native.Mathlib.Omega.{arith}
 use lib.ListN.{length, getD}
 use Rattle.columns.specs.Set.{sizeOf, setOf}
-use Rattle.columns.specs.Order.{Precedes, first, after, nth}
+use Rattle.columns.specs.Order.{Precedes, Ordered, Once, first, after, nth}
 use Rattle.columns.specs.declared.ColumnSet.{ColumnSet}
 use Rattle.columns.specs.declared.SetOrNone.the-variants.{Set, Nothing}
 use Rattle.columns.proofs.Test.{ifEq-yes, ifEq-no}
@@ -35,16 +35,7 @@ precedes-total x y n = go (decLt (sizeOf x) (sizeOf y)) (decLt (sizeOf y) (sizeO
     go (no a) (no b) (yes h) = inl (inr (omega arith, h))
     go (no a) (no b) (no c) = inr (inr (omega arith, omega arith))
 
--- each element precedes every later one
-abbrev pub Ordered : List ℕ → Type 0
-Ordered [] = Unit {0}
-Ordered (x ∷ xs) = ((y : ℕ) → List·Memᴰ y xs → Precedes x y) × Ordered xs
-
--- no element is among the later ones
-abbrev pub Once : List ℕ → Type 0
-Once [] = Unit {0}
-Once (x ∷ xs) = (List·Memᴰ x xs → ⊥) × Once xs
-
+-- lists in that order
 pub ordered-once : (l : List ℕ) → Ordered l → Once l
 ordered-once [] o = tt
 ordered-once (x ∷ xs) o = (λ m. precedes-irrefl x (o .0 x m), ordered-once xs (o .1))

@@ -15,12 +15,12 @@ use lib.ListN.{getD, drop}
 use lib.Seq.{drop-cons}
 use Rattle.columns.specs.Bound.{columnBound}
 use Rattle.columns.specs.Set.{sizeOf, setOf}
-use Rattle.columns.specs.Order.{Precedes, precedesOf, ofSizeFrom, ofSize, bySizeFrom, inOrder, nth, nextOf, atOf}
+use Rattle.columns.specs.Order.{Precedes, precedesOf, Ordered, Once, ofSizeFrom, ofSize, bySizeFrom, inOrder}
+use Rattle.columns.specs.Order.{nth, nextOf, atOf}
 use Rattle.columns.specs.declared.SetOrNone.the-variants.{Set, Nothing}
 use Rattle.columns.proofs.Test.{ifEq-yes, ifEq-no, ifLt-yes, ifLt-no, ifLe-yes}
 use Rattle.columns.proofs.Pascal.{from-yes, from-no, length-inOrder}
-use Rattle.columns.proofs.Lists.{Ordered, Once, ordered-once, ordered-append, nth-getD, nth-past, getD-mem}
-use Rattle.columns.proofs.Lists.{after-nth}
+use Rattle.columns.proofs.Lists.{ordered-once, ordered-append, nth-getD, nth-past, getD-mem, after-nth}
 
 -- `precedesOf` is the order
 pub precedes-test : (x y : ℕ) → Precedes x y → precedesOf x y ≡ true

@@ -6,10 +6,10 @@ use mathlib.Core.List.{List, [], _∷_, List·Memᴰ, List·Memᴰ·not-nil}
 use native.Mathlib.Decide.{ℕ-discrete}
 use native.Mathlib.Omega.{arith}
 use lib.ListN.{length, getD}
-use Rattle.columns.specs.Order.{Precedes, inOrder}
+use Rattle.columns.specs.Order.{Precedes, Ordered, inOrder}
 use Rattle.columns.specs.Test.{ifEq}
 use Rattle.columns.proofs.Test.{ifEq-yes, ifEq-no}
-use Rattle.columns.proofs.Lists.{Ordered, precedes-irrefl, precedes-asym, later}
+use Rattle.columns.proofs.Lists.{precedes-irrefl, precedes-asym, later}
 use Rattle.columns.proofs.Order.{inOrder-mem, ordered-inOrder}
 use Rattle.columns.proofs.Pascal.{length-inOrder}
 

@@ -3,7 +3,7 @@ use Prim.Native.Nat.{ℕ, zero, suc, _+_, _^_, _<_}
 use mathlib.Core.Path.{_≡_}
 use mathlib.Core.Bool.{Bool, true, false}
 use mathlib.Core.Logic.{_⊎_}
-use mathlib.Core.List.{List, [], _∷_, _++_}
+use mathlib.Core.List.{List, [], _∷_, _++_, List·Memᴰ}
 use lib.Dec.{ltb}
 use Rattle.columns.specs.Bound.{columnBound}
 use Rattle.columns.specs.Test.{ifEq, ifLt, ifLe}
@@ -18,6 +18,16 @@ Precedes x y = (sizeOf x < sizeOf y) ⊎ ((sizeOf x ≡ sizeOf y) × (x < y))
 -- the same as a test
 unfoldable pub precedesOf : ℕ → ℕ → Bool
 precedesOf x y = ifLt (sizeOf x) (sizeOf y) true (ifEq (sizeOf x) (sizeOf y) (ltb x y) false)
+
+-- a list in that order: each element precedes every later one
+abbrev pub Ordered : List ℕ → Type 0
+Ordered [] = Unit {0}
+Ordered (x ∷ xs) = ((y : ℕ) → List·Memᴰ y xs → Precedes x y) × Ordered xs
+
+-- a list with each element once: none is among the later ones
+abbrev pub Once : List ℕ → Type 0
+Once [] = Unit {0}
+Once (x ∷ xs) = (List·Memᴰ x xs → ⊥) × Once xs
 
 -- of the numbers from x on, m in all, those with k bits, ascending
 unfoldable pub ofSizeFrom : ℕ → ℕ → ℕ → List ℕ

@@ -13,12 +13,12 @@ use Rattle.model.specs.Check.{checkCode, Accepted}
 use Rattle.model.specs.Entry.{Ordered, Once}
 use Rattle.model.specs.Listing.{Listing, Bounded, Stands, ordinary, cells, countAll}
 use Rattle.model.specs.Calls.{flat, Seen, Obeys, callCode}
-use Rattle.model.specs.Demand.{Linked, Every, AllObey, placeHeld, joined, Demand3, Complete}
+use Rattle.model.specs.Demand.{Linked, Every, placeHeld, joined, Input, inputOf, Demand3, Complete}
 use Rattle.model.specs.List.{firstCode, CallMeaning, ListMeaning}
 use Rattle.model.specs.declared.Entry.{Entry}
 use Rattle.model.proofs.Grounds.{orElse-left}
 use Rattle.model.proofs.Demand.{demand3, every-map}
-use Rattle.model.proofs.Obedient.{Input, inputOf, obedient, reached}
+use Rattle.model.proofs.Obedient.{obedient, reached}
 use Rattle.model.proofs.Listing.{stands-is, full-ordered, full-once, full-count}
 use Rattle.model.proofs.Rights.{ordinary-bounded}
 

@@ -11,7 +11,7 @@ use Rattle.model.specs.Bounds.{row}
 use Rattle.model.specs.Check.{Accepted}
 use Rattle.model.specs.View.{Equivalence, In, Holds, Backed}
 use Rattle.model.specs.Listed.{Listed}
-use Rattle.model.specs.Listing.{Listing, widthOf, rightsOf, cells, Bounded, ordinary}
+use Rattle.model.specs.Listing.{Listing, widthOf, rightsOf, cells, Bounded, RowRight, ordinary}
 use Rattle.model.specs.Calls.{flat}
 use Rattle.model.specs.Contains.{ContainsListed, ContainsKey, NothingLost}
 use Rattle.model.specs.Entry.{entry}
@@ -21,7 +21,7 @@ use Rattle.model.proofs.Backed.{backed-within}
 use Rattle.model.proofs.Minimal.{contains-minimal, key-gives}
 use Rattle.model.proofs.Listed.{listed-or-key}
 use Rattle.model.proofs.Target.{view-equivalence}
-use Rattle.model.proofs.Rights.{RowRight, ordinary-row, ordinary-bounded}
+use Rattle.model.proofs.Rights.{ordinary-row, ordinary-bounded}
 use Rattle.model.proofs.Listing.{stands-is}
 
 -- the row is no member of a set of few columns

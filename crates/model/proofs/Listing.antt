@@ -13,7 +13,7 @@ use lib.Dec.{T}
 use lib.ListN.{length, length-append}
 use Rattle.columns.specs.Test.{pick}
 use Rattle.columns.specs.Order.{Precedes, inOrder}
-use Rattle.columns.proofs.Lists as lists
+use Rattle.columns.specs.Order as lists
 use Rattle.columns.proofs.Order.{mem-inOrder, inOrder-mem, ordered-inOrder}
 use Rattle.columns.proofs.Pascal.{length-inOrder}
 use Rattle.model.specs.Catalogue.{tables, visible, setsFrom, sets}

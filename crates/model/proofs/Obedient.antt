@@ -11,21 +11,12 @@ use lib.ListN.{length, drop, getD, replicate, length-drop, length-replicate, len
 use Rattle.model.specs.Bounds.{workBound}
 use Rattle.model.specs.Reply.{Reply, answered, replyOf}
 use Rattle.model.specs.Calls.{flat, passed, written, runAfter, workAfter, callCode, Seen, Obeys}
-use Rattle.model.specs.Demand.{held, Linked, placeHeld, Every, AllObey}
+use Rattle.model.specs.Demand.{held, Linked, placeHeld, Every, AllObey, Input, inputOf, Calls, Ample}
 use Rattle.model.proofs.Calls.{le-or-lt, cell-le, call-none, passed-fit-at, flat-drop-le}
 use Rattle.model.proofs.Stops.{passed-all}
 use Rattle.model.proofs.Grounds.{reply-answered}
 use Rattle.model.proofs.Rightly.{obeys-rightly}
 use Rattle.model.proofs.Demand.{held-in-range}
-
--- what a call is handed besides the place
-pub record Input (A : Type 0) : Type 0 where
-  pub budget : ℕ
-  pub run : List A
-  pub work : List ℕ
-
-abbrev pub inputOf : {A : Type 0} → Seen A → Input A
-inputOf s = record { budget = s .budget; run = s .run; work = s .work }
 
 module _ {A : Type 0} (cs : List (List A)) where
   -- the call that the contract leaves, and the calls from a place held on
@@ -60,11 +51,6 @@ module _ {A : Type 0} (cs : List (List A)) where
   calls-inputs : (p : ℕ) (inputs : List (Input A)) → map inputOf (callsFrom p inputs) ≡ inputs
   calls-inputs p [] = refl
   calls-inputs p (i ∷ rest) = ap (λ (l : List (Input A)). i ∷ l) (calls-inputs (held p (callAt p i .reply)) rest)
-
--- a list of calls as demand 3 has them
-pub record Calls {A : Type 0} (cs : List (List A)) (ss : List (Seen A)) : Type 0 where
-  pub linked : Linked 0 ss
-  pub obey : AllObey cs ss
 
 -- for any inputs there is such a list, with these inputs and of their length
 pub obedient : {A : Type 0} (cs : List (List A)) (inputs : List (Input A))
@@ -134,14 +120,8 @@ reached {A} cs = by (replicate workBound 0) (le-of-eq (sym (length-replicate {A 
             reaches cs (callAt cs 0 input) (record { reply = refl; run = refl; work = refl }) w
             zero-le (le-refl _) (omega arith)
 
--- a call is lent enough: words, a run for all entries, and some budget
-pub record Ample {A : Type 0} (cs : List (List A)) (s : Seen A) : Type 0 where
-  pub words : workBound ≤ length (s .work)
-  pub room : length (flat cs) ≤ length (s .run)
-  pub budget : 0 < s .budget
-
 module _ {A : Type 0} (cs : List (List A)) where
-  -- such a call raises a place below the last
+  -- a call that is lent enough raises a place below the last
   pub ample-progress : (s : Seen A)
       → Obeys cs (callCode cs (s .place) (s .budget) (length (s .run)) (length (s .work))) s
       → Ample cs s → s .place < length cs → s .place < held (s .place) (s .reply)

@@ -21,7 +21,7 @@ use Rattle.model.specs.Check.{Accepted}
 use Rattle.model.specs.View.{isIn}
 use Rattle.model.specs.Rights.{rightAt, rightsFrom, rightsIn}
 use Rattle.model.specs.Target.{ownRights}
-use Rattle.model.specs.Listing.{Listing, widthOf, rightsOf, Bounded, ordinary}
+use Rattle.model.specs.Listing.{Listing, widthOf, rightsOf, Bounded, RowRight, ordinary}
 use Rattle.model.proofs.Truth.{true-is, false-is, eqb-is}
 use Rattle.model.proofs.Check.{accepted-tables, accepted-visible}
 use Rattle.model.proofs.Climb.{inherited-visible}
@@ -226,9 +226,6 @@ ordinary-bounded cat ok =
       members = λ target h. accepted-visible cat ok target h;
     }
 
--- the row is a right of every target, and so of every table
-abbrev pub RowRight : Listing → Type 0
-RowRight l = (target : ℕ) → target < l .targets → List·Memᴰ row (rightsOf l target)
-
+-- and the row is a right of each of its targets
 pub ordinary-row : (cat : List ℕ) → RowRight (ordinary cat)
 ordinary-row cat target known = right-is cat target row .1 (inr refl)

@@ -22,7 +22,7 @@ use Rattle.model.specs.View.{Key, holds}
 use Rattle.model.specs.Listed.{listed}
 use Rattle.model.specs.Entry.{entry}
 use Rattle.model.specs.Listing.{Listing, widthOf, rightsOf, entriesOf, cellsOf, cellsFrom, cells, Bounded}
-use Rattle.model.specs.Listing.{ordinary}
+use Rattle.model.specs.Listing.{RowRight, ordinary}
 use Rattle.model.specs.Calls.{flat, roomCode}
 use Rattle.model.specs.List.{listCode}
 use Rattle.model.specs.declared.Refusal.the-variants.{RunTooShort}
@@ -30,8 +30,7 @@ use Rattle.model.specs.declared.Entry.{Entry}
 use Rattle.model.proofs.Truth.{is-false, decided}
 use Rattle.model.proofs.View.{holds-is}
 use Rattle.model.proofs.Listed.{listed-is}
-use Rattle.model.proofs.Rights.{Ascending, rights-ascending, rights-length, RowRight, ordinary-bounded}
-use Rattle.model.proofs.Rights.{ordinary-row}
+use Rattle.model.proofs.Rights.{Ascending, rights-ascending, rights-length, ordinary-bounded, ordinary-row}
 use Rattle.model.proofs.Calls.{room-fit-at, Outcome, few, past, short, none, outcome}
 use Rattle.model.proofs.Listing.{places-from, cells-length}
 use Rattle.model.proofs.Complete.{after-none}

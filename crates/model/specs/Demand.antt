@@ -57,6 +57,26 @@ Every P (s ∷ ss) = P s × Every P ss
 abbrev pub AllObey : {A : Type 0} → List (List A) → List (Seen A) → Type 0
 AllObey cs = Every (λ s. Obeys cs (callCode cs (s .place) (s .budget) (length (s .run)) (length (s .work))) s)
 
+-- a list of calls as demand 3 has them: linked from place 0 on, and each obeys
+pub record Calls {A : Type 0} (cs : List (List A)) (ss : List (Seen A)) : Type 0 where
+  pub linked : Linked 0 ss
+  pub obey : AllObey cs ss
+
+-- what a call is handed besides the place, and that of a call as seen
+pub record Input (A : Type 0) : Type 0 where
+  pub budget : ℕ
+  pub run : List A
+  pub work : List ℕ
+
+abbrev pub inputOf : {A : Type 0} → Seen A → Input A
+inputOf s = record { budget = s .budget; run = s .run; work = s .work }
+
+-- a call is lent enough: words, a run for all entries, and some budget
+pub record Ample {A : Type 0} (cs : List (List A)) (s : Seen A) : Type 0 where
+  pub words : workBound ≤ length (s .work)
+  pub room : length (flat cs) ≤ length (s .run)
+  pub budget : 0 < s .budget
+
 -- the stop rule, as a statement: k sets are passed from a place with a budget and room for so many entries, and not
 -- one more could be
 pub record Stops {A : Type 0} (cs : List (List A)) (place budget room k : ℕ) : Type 0 where

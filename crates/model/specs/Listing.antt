@@ -5,7 +5,7 @@ use mathlib.Core.List.{List, [], _∷_, _++_, List·Memᴰ}
 use Rattle.columns.specs.Bound.{columnBound}
 use Rattle.columns.specs.Test.{pick}
 use Rattle.columns.specs.Order.{inOrder}
-use Rattle.model.specs.Bounds.{tableBound}
+use Rattle.model.specs.Bounds.{tableBound, row}
 use Rattle.model.specs.Catalogue.{tables}
 use Rattle.model.specs.View.{View}
 use Rattle.model.specs.Listed.{Listed, listed}
@@ -77,6 +77,10 @@ countAll l = countTargets l (l .targets)
 pub record Bounded (l : Listing) : Type 0 where
   pub targets : l .targets ≤ tableBound
   pub members : (target : ℕ) → target < l .targets → widthOf l target ≤ columnBound
+
+-- a listing with the row among the rights of every target
+abbrev pub RowRight : Listing → Type 0
+RowRight l = (target : ℕ) → target < l .targets → List·Memᴰ row (rightsOf l target)
 
 -- the ordinary listing of a catalogue: its tables, their visible columns, and their own columns and the row on the
 -- right

@@ -1,6 +1,6 @@
 -- Entries in listing order are bounded in number: each has a rank among all that may stand in a list, and ranks grow
 -- with the order.
-use Prim.Native.Nat.{ℕ, suc, _+_, _*_, _^_, _≤_, _<_, min}
+use Prim.Native.Nat.{ℕ, _+_, _*_, _≤_, _<_, min}
 use mathlib.Core.Path.{_≡_, sym, ap, subst}
 use mathlib.Core.Logic.{_⊎_, inl, inr, ⊎-elim}
 use mathlib.Core.List.{List, [], _∷_}
@@ -15,6 +15,7 @@ use Rattle.model.specs.Refusal.{number, orElse}
 use Rattle.model.specs.Entries.{entryCode, laterCode, restCode, entriesCode}
 use Rattle.model.specs.declared.Entry.{Entry}
 use Rattle.model.specs.declared.Refusal.the-variants.{BadEntry}
+use Rattle.packed.specs.Round.{leftSides, rightSides, ranks}
 use Rattle.model.proofs.Earlier.{earlier-is}
 use Rattle.entries.specs.Small.{Small}
 use Rattle.entries.proofs.Checks.{bad-some}
@@ -36,17 +37,8 @@ fine e h =
       right = ⊎-elim inl (λ a. inr (no-le columnBound (e .right) (number BadEntry) _ bad-some a .0)) q;
     }
 
--- how many left sides there are, how many rights with the row, and so how many entries may stand in a list
-abbrev leftSides : ℕ
-leftSides = 2 ^ columnBound
-
-abbrev rightSides : ℕ
-rightSides = suc columnBound
-
-abbrev pub ranks : ℕ
-ranks = tableBound * (leftSides * rightSides)
-
--- an entry's rank among them: by target, then by left in listing order, then by right, the row last
+-- an entry's rank among all that may stand in a list: by target, then by left in listing order, then by right, the
+-- row last
 abbrev rank : Entry → ℕ
 rank e = e .target * (leftSides * rightSides) + rankOf columnBound (e .left) * rightSides + min (e .right) columnBound
 
