@@ -2,7 +2,6 @@
 use Prim.Native.Nat.{ℕ, zero, suc, _+_, _-_, _*_, _/_, _%_, _^_, _≤_, _<_, min}
 use mathlib.Core.Path.{_≡_, refl, sym, ap, ap₂, _∙_}
 use mathlib.Core.Bool.{Bool, true, false, _&&_}
-use mathlib.Core.Logic.{inl}
 use native.Mathlib.Nat.{le-trans, lt-of-le-of-lt, sub-le, sub-zero, zero-mul, one-mul, add-mul, mul-le-mul-right}
 use native.Mathlib.Nat.{mod-le, mod-lt, div-one, div-mul-le-self, two-pow-succ}
 use native.Mathlib.Nat.{div-eq-of-lt}
@@ -10,12 +9,10 @@ use native.Mathlib.Numerals.{one-add}
 use native.Mathlib.Omega.{arith}
 use borrow.Author.Tests.{ltb-true, lt-ltb, eqb-true, eq-eqb}
 use lib.Dec.{ltb, eqb}
-use lib.Count.{ones-step, ones-cat}
 use lib.Bits.{bitAnd, and-step, and-shr, and-le-l}
 use lib.Pow.{pow-pos, pow-mono, shr-shr, split, high, low, field, mod-mod-pow, ones-split, ones-lt}
 use Rattle.columns.specs.Bound.{columnBound}
-use Rattle.columns.specs.Set.{bit, memberOf, sizeOf, withoutOf, withinOf}
-use Rattle.columns.specs.Order.{Precedes}
+use Rattle.columns.specs.Set.{bit, memberOf, withoutOf, withinOf}
 
 -- bit 0, the bits above a bit, and the bits below it
 pub bit-zero : (x : ℕ) → bit x 0 ≡ x % 2
@@ -131,33 +128,6 @@ without-lt x k e = omega (arith, without-some x k e, bit-power-le x k e, pow-pos
 
 pub without-below : (n x k : ℕ) → x < 2 ^ n → withoutOf x k < 2 ^ n
 without-below n x k h = lt-of-le-of-lt (without-le x k) h
-
--- it has one member less, so it stands before the set
-pub size-without : (x k : ℕ) → bit x k ≡ 1 → suc (sizeOf (withoutOf x k)) ≡ sizeOf x
-size-without x k e =
-    let l = mod-lt x (pow-pos k) in
-    let h = x / 2 ^ k / 2 in
-    let f : h * 2 + 1 ≡ x / 2 ^ k = with-bit (x / 2 ^ k) e in
-    let a : sizeOf (withoutOf x k) ≡ sizeOf (h * 2) + sizeOf (x % 2 ^ k) =
-    ap sizeOf (without-parts x k) ∙ ones-cat k (h * 2) (x % 2 ^ k) l in
-    let b : sizeOf x ≡ sizeOf (h * 2 + 1) + sizeOf (x % 2 ^ k) =
-    ap sizeOf (sym (split x k)) ∙ ones-cat k (x / 2 ^ k) (x % 2 ^ k) l
-    ∙ ap (λ (q : ℕ). sizeOf q + sizeOf (x % 2 ^ k)) (sym f) in
-    omega (arith, even-odd h)
-  where
-    with-bit : (q : ℕ) → q % 2 ≡ 1 → q / 2 * 2 + 1 ≡ q
-    with-bit q o = omega arith
-
-    even-odd : (h : ℕ) → suc (sizeOf (h * 2)) ≡ sizeOf (h * 2 + 1)
-    even-odd h =
-        let p : h * 2 % 2 ≡ 0 = omega arith in
-        let q : (h * 2 + 1) % 2 ≡ 1 = omega arith in
-        let s = ap sizeOf (doubled-half h) in
-        let t : sizeOf ((h * 2 + 1) / 2) ≡ sizeOf h = ap sizeOf (omega arith) in
-        omega (arith, ones-step (h * 2), ones-step (h * 2 + 1))
-
-pub without-precedes : (x k : ℕ) → bit x k ≡ 1 → Precedes (withoutOf x k) x
-without-precedes x k e = inl (omega (arith, size-without x k e))
 
 -- the full set has every column
 pub bit-full : (n k : ℕ) → k < n → bit (2 ^ n - 1) k ≡ 1

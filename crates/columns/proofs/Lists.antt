@@ -4,10 +4,10 @@ use mathlib.Core.Path.{_≡_, refl, sym, ap, _∙_, subst}
 use mathlib.Core.Logic.{_⊎_, inl, inr, ⊎-elim}
 use mathlib.Core.List.{List, [], _∷_, _++_, List·Memᴰ, List·Memᴰ·head, List·Memᴰ·tail, List·Memᴰ·not-nil}
 use mathlib.Core.List.{List·Memᴰ·cases-cons, List·Memᴰ·append-cases}
-use native.Mathlib.Decide.{ℕ-discrete, decLt}
+use native.Mathlib.Decide.{ℕ-discrete}
 use native.Mathlib.Omega.{arith}
 use lib.ListN.{length, getD}
-use Rattle.columns.specs.Set.{sizeOf, setOf}
+use Rattle.columns.specs.Set.{setOf}
 use Rattle.columns.specs.Order.{Precedes, Ordered, Once, first, after, nth}
 use Rattle.columns.specs.declared.ColumnSet.{ColumnSet}
 use Rattle.columns.specs.declared.SetOrNone.the-variants.{Set, Nothing}
@@ -25,15 +25,6 @@ precedes-trans x y z (inr p) (inr q) = inr (p .0 ∙ q .0, omega arith)
 
 pub precedes-asym : (x y : ℕ) → Precedes x y → Precedes y x → ⊥
 precedes-asym x y p q = precedes-irrefl x (precedes-trans x y x p q)
-
-pub precedes-total : (x y : ℕ) → (x ≡ y → ⊥) → Precedes x y ⊎ Precedes y x
-precedes-total x y n = go (decLt (sizeOf x) (sizeOf y)) (decLt (sizeOf y) (sizeOf x)) (decLt x y)
-  where
-    go : Dec (sizeOf x < sizeOf y) → Dec (sizeOf y < sizeOf x) → Dec (x < y) → Precedes x y ⊎ Precedes y x
-    go (yes h) b c = inl (inl h)
-    go (no a) (yes h) c = inr (inl h)
-    go (no a) (no b) (yes h) = inl (inr (omega arith, h))
-    go (no a) (no b) (no c) = inr (inr (omega arith, omega arith))
 
 -- lists in that order
 pub ordered-once : (l : List ℕ) → Ordered l → Once l

@@ -70,9 +70,6 @@ pub bit-members : (x k : ℕ) → k < columnBound → bit (membersOf x) k ≡ bi
 unfolding membersOf
 bit-members x k h = setBelow-bit columnBound (memberOf x) k h ∙ member-pick x k h
 
-pub member-members : (x k : ℕ) → memberOf (membersOf x) k ≡ memberOf x k
-member-members x k = member-same (membersOf x) x k (bit-members x k)
-
 pub members-mod : (x : ℕ) → membersOf x ≡ x % 2 ^ columnBound
 members-mod x =
     bits-same columnBound (membersOf x) (x % 2 ^ columnBound) (members-lt x) (mod-lt x (pow-pos columnBound))
@@ -85,9 +82,6 @@ members-own n x l h = members-mod x ∙ mod-eq-of-lt (lt-of-lt-of-le h (pow-mono
 pub same-members : (x y : ℕ) → ((k : ℕ) → memberOf x k ≡ memberOf y k) → membersOf x ≡ membersOf y
 unfolding membersOf
 same-members x y e = setBelow-same columnBound (memberOf x) (memberOf y) (λ k h. e k)
-
-pub members-same : (x y : ℕ) → membersOf x ≡ membersOf y → (k : ℕ) → memberOf x k ≡ memberOf y k
-members-same x y e k = sym (member-members x k) ∙ ap (λ (z : ℕ). memberOf z k) e ∙ member-members y k
 
 -- counting: none is counted exactly if none passes
 pub countBelow-none : (n : ℕ) (f : ℕ → Bool) → ((k : ℕ) → k < n → f k ≡ false) → countBelow n f ≡ 0
@@ -281,7 +275,3 @@ same-members-alike x y e =
       behind = λ z. ap (precedesOf (membersOf z)) s;
       next = λ n. ap (nextOf n) s;
     }
-
--- so a set and its members alone are alike
-pub members-alike : (x : ℕ) → Alike (membersOf x) x
-members-alike x = same-members-alike (membersOf x) x (member-members x)

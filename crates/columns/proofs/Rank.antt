@@ -1,11 +1,11 @@
 -- The rank of a set of n columns: the index at which it stands in the listing order. Ranks are below 2^n and grow with
 -- the order.
 use Prim.Native.Nat.{ℕ, suc, _^_, _<_}
-use mathlib.Core.Path.{_≡_, sym, ap, _∙_, subst}
+use mathlib.Core.Path.{_≡_, sym, _∙_, subst}
 use mathlib.Core.List.{List, [], _∷_, List·Memᴰ, List·Memᴰ·not-nil}
 use native.Mathlib.Decide.{ℕ-discrete}
 use native.Mathlib.Omega.{arith}
-use lib.ListN.{length, getD}
+use lib.ListN.{length}
 use Rattle.columns.specs.Order.{Precedes, Ordered, inOrder}
 use Rattle.columns.specs.Test.{ifEq}
 use Rattle.columns.proofs.Test.{ifEq-yes, ifEq-no}
@@ -38,14 +38,6 @@ index-lt (y ∷ ys) x m =
       | no n ↦ omega (arith, index-there y ys x n, index-lt ys x (later x y ys m n))
     ]
 
-index-at : (l : List ℕ) (x : ℕ) → List·Memᴰ x l → getD l (indexIn l x) 0 ≡ x
-index-at [] x m = absurd (List·Memᴰ·not-nil m)
-index-at (y ∷ ys) x m =
-    elim (ℕ-discrete x y) [
-      | yes e ↦ ap (λ (i : ℕ). getD (y ∷ ys) i 0) (index-here y ys x e) ∙ sym e
-      | no n ↦ ap (λ (i : ℕ). getD (y ∷ ys) i 0) (index-there y ys x n) ∙ index-at ys x (later x y ys m n)
-    ]
-
 -- in an ordered list the index grows with the order
 index-grows : (l : List ℕ) (x y : ℕ) → Ordered l → List·Memᴰ x l → List·Memᴰ y l → Precedes x y
     → indexIn l x < indexIn l y
@@ -61,11 +53,7 @@ index-grows (z ∷ zs) x y o mx my p = go (ℕ-discrete x z) (ℕ-discrete y z) 
     go (no e) (no f) ih =
         omega (arith, index-there z zs x e, index-there z zs y f, ih (later x z zs mx e) (later y z zs my f) p)
 
--- the set that stands at a set's rank is that set
-pub rank-at : (n x : ℕ) → x < 2 ^ n → getD (inOrder n) (rankOf n x) 0 ≡ x
-unfolding rankOf
-rank-at n x h = index-at (inOrder n) x (inOrder-mem n x h)
-
+-- so a set's rank is below the number of sets and grows with the order
 pub rank-lt : (n x : ℕ) → x < 2 ^ n → rankOf n x < 2 ^ n
 unfolding rankOf
 rank-lt n x h = let l = index-lt (inOrder n) x (inOrder-mem n x h) in omega (arith, length-inOrder n)

@@ -5,7 +5,7 @@
 ghost use mathlib.Core.Path.{_≡_};
 ghost use Prim.Native.Nat.{_+_, _-_, _*_, _^_, _<_};
 ghost use Rattle.model.specs.Catalogue.{tables as tablesOf, trailer as trailerOf, tableAt, columns as columnsOf};
-ghost use Rattle.model.specs.Catalogue.{parent as parentOf, rows as rowsOf, rowAt, parentRow, tableEnd};
+ghost use Rattle.model.specs.Catalogue.{parent as parentOf, rows as rowsOf, rowAt, tableEnd};
 ghost use Rattle.model.specs.Catalogue.{visible as visibleOf, inherited as inheritedOf, sets as setsOf};
 ghost use Rattle.model.specs.Check.{Accepted};
 use bits::power;
@@ -77,13 +77,6 @@ pub fn row_at(cat: &[u8], table: u32, k: u32) -> usize
     let c = columns(cat, table) as usize;
     let n = k as usize;
     at + 6 + n * (2 + 4 * c)
-}
-
-// The parent row of row k of a table.
-pub fn parent_row(cat: &[u8], table: u32, k: u32) -> u16
-    ensures { λ r. ⌜ r ≡ parentRow (now (cat .entry)) table k ⌝ }
-{
-    file::u16_at(cat, row_at(cat, table, k))
 }
 
 // The first byte after a table's rows.

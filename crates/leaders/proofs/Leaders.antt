@@ -3,25 +3,18 @@
 use Prim.Native.Nat.{ℕ, _≤_, _<_}
 use mathlib.Core.Path.{_≡_, sym, subst}
 use mathlib.Core.Logic.{_⊎_, inl, inr, _↔_}
-use mathlib.Core.Bool.{false}
 use native.Mathlib.Decide.{ℕ-discrete, decLt}
 use native.Mathlib.Omega.{arith}
 use lib.Dec.{T}
-use Rattle.columns.specs.Bound.{columnBound}
-use Rattle.columns.specs.Set.{bit}
 use Rattle.model.specs.Bounds.{row}
 use Rattle.model.specs.First.{firstFrom}
 use Rattle.model.specs.Pair.{FirstPair}
-use Rattle.model.specs.View.{View, Equivalence, AgreeOn, agreeOn, agreeRight, Holds, holds, Key, Breaks}
+use Rattle.model.specs.View.{View, Equivalence, AgreeOn, agreeOn, agreeRight, Holds, Key, Breaks}
 use Rattle.model.proofs.Truth.{decided, eqb-is}
 use Rattle.model.proofs.First.{FirstThat, firstFrom-is}
 use Rattle.model.proofs.View.{agreeOn-is, agreeOn-reflexive, agreeOn-symmetric, agreeOn-transitive}
 use Rattle.model.proofs.View.{agreeRight-reflexive, agreeRight-symmetric, agreeRight-transitive}
-use Rattle.model.proofs.View.{not-holds-breaks, breaks-holds-false}
-use Rattle.table.specs.Broken.{agreeSetOf}
-use Rattle.model.specs.Rights.{rightAt}
-use Rattle.table.proofs.Table.{right-agreed, right-lacked}
-use Rattle.leaders.specs.Leaders.{leaderOf, Leader, Strays, LeadsItself, AllLead}
+use Rattle.leaders.specs.Leaders.{leaderOf, Leader, Strays, AllLead}
 
 pub leader-le : (v : View) (x q : ℕ) → leaderOf v x q ≤ q
 unfolding leaderOf
@@ -155,29 +148,3 @@ module _ (v : View) (eq : Equivalence v) where
       at : (r : ℕ) → r < q → leaderOf v x r ≤ p → Strays v x a r → Dec (leaderOf v x r < p) → ⊥
       at r k l t (yes i) = lower r i t
       at r k l t (no i) = earlier r k (omega arith) t
-
-  -- the rights that x breaks are those that the agree sets of the rows with their leaders lack, rows that lead
-  -- themselves left out
-  pub broken-by-leaders : (x a : ℕ) → a ≤ v .members → v .members ≤ columnBound
-      → (holds v x (rightAt (v .members) a) ≡ false)
-      ↔ ((q : ℕ) × (q < v .rows) × (LeadsItself v x q → ⊥) × (bit (agreeSetOf v (leaderOf v x q) q) a ≡ 0))
-  broken-by-leaders x a h b = (
-    λ e.
-        let f = not-holds-breaks v eq x (rightAt (v .members) a) e in
-        let r = breaks-strays x (rightAt (v .members) a) (f .0) (f .1) (f .2) in
-        let g = strays-breaks x (rightAt (v .members) a) (r .0) (r .3) in
-        let l = g .lower in
-        (r .0, g .exists, (λ i. omega (arith, i)), right-lacked v a (leaderOf v x (r .0)) (r .0) h b l (g .right)),
-    λ f.
-        let q = f .0 in
-        let l : leaderOf v x q < q = less q (f .2) in
-        breaks-holds-false (record {
-          lower = l;
-          exists = f .1;
-          left = leader-is x q .agrees;
-          right = λ t. omega (arith, f .3, right-agreed v a (leaderOf v x q) q h b l .0 t);
-        }),
-  )
-    where
-      less : (q : ℕ) → (leaderOf v x q ≡ q → ⊥) → leaderOf v x q < q
-      less q n = omega (arith, leader-le v x q)

@@ -118,11 +118,6 @@ module _ {A : Type 0} where
   pub passed-end-at : (g r p : ℕ) (cs : List (List A)) → length cs ≤ p → passed g r (drop p cs) ≡ 0
   passed-end-at g r p cs h = passed-end g r (drop p cs) (length-drop p cs ∙ omega arith)
 
-  pub passed-full-at : (g r p : ℕ) (cs : List (List A)) → p < length cs → r < length (getD cs p [])
-      → passed g r (drop p cs) ≡ 0
-  passed-full-at g r p cs l h =
-      ap (passed g r) (drop-cons cs p [] l) ∙ passed-full g r (getD cs p []) (drop (suc p) cs) h
-
   pub passed-fit-at : (g r p : ℕ) (cs : List (List A)) → p < length cs → 0 < g → length (getD cs p []) ≤ r
       → passed g r (drop p cs) ≡ suc (passed (g - 1) (r - length (getD cs p [])) (drop (suc p) cs))
   passed-fit-at g r p cs l b h =
@@ -130,16 +125,6 @@ module _ {A : Type 0} where
 
   pub written-end-at : (g r p : ℕ) (cs : List (List A)) → length cs ≤ p → written g r (drop p cs) ≡ []
   written-end-at g r p cs h = written-end g r (drop p cs) (length-drop p cs ∙ omega arith)
-
-  pub written-full-at : (g r p : ℕ) (cs : List (List A)) → p < length cs → r < length (getD cs p [])
-      → written g r (drop p cs) ≡ []
-  written-full-at g r p cs l h =
-      ap (written g r) (drop-cons cs p [] l) ∙ written-full g r (getD cs p []) (drop (suc p) cs) h
-
-  pub written-fit-at : (g r p : ℕ) (cs : List (List A)) → p < length cs → 0 < g → length (getD cs p []) ≤ r
-      → written g r (drop p cs) ≡ getD cs p [] ++ written (g - 1) (r - length (getD cs p [])) (drop (suc p) cs)
-  written-fit-at g r p cs l b h =
-      ap (written g r) (drop-cons cs p [] l) ∙ written-fit g r (getD cs p []) (drop (suc p) cs) b h
 
 -- the grounds, one by one
 pub words-few : (w : ℕ) → w < workBound → wordsCode w ≡ number TooFewWords

@@ -1,5 +1,5 @@
--- What an accepted catalogue satisfies: each line of the table of refusals 1 to 7, read off the check. Every law here
--- is for bytes with `Accepted cat`, and a table t of them.
+-- What an accepted catalogue satisfies, as far as it is cited: lines of the table of refusals 2 to 7, read off the
+-- check. Every law here is for bytes with `Accepted cat`, and a table t of them.
 use Prim.Native.Nat.{ℕ, _+_, _-_, _*_, _≤_, _<_}
 use mathlib.Core.Path.{_≡_, sym, subst, _∙_}
 use mathlib.Core.List.{List}
@@ -8,22 +8,18 @@ use native.Mathlib.Omega.{arith}
 use lib.ListN.{length}
 use Rattle.columns.specs.Bound.{columnBound}
 use Rattle.columns.specs.Test.{ifEq, ifLt}
-use Rattle.columns.proofs.Test.{ifEq-yes, ifEq-no, ifLt-no}
-use Rattle.model.specs.Bounds.{tableBound, rowBound, smallestFile, noParent}
+use Rattle.columns.proofs.Test.{ifEq-no, ifLt-no}
+use Rattle.model.specs.Bounds.{tableBound, rowBound}
 use Rattle.model.specs.Refusal.{number, orElse, firstOf}
-use Rattle.model.specs.Catalogue.{tables, trailer, tableAt, columns, parent, rows, parentRow, tableEnd, visible}
-use Rattle.model.specs.Check.{Accepted, checkCode, sizeCode, trailerCode, startOf, headCode, boundCode}
+use Rattle.model.specs.Catalogue.{tables, trailer, columns, parent, rows, parentRow, tableEnd, visible}
+use Rattle.model.specs.Check.{Accepted, checkCode, trailerCode, boundCode}
 use Rattle.model.specs.Check.{parentCode, widthCode, extentCode, rowCode, tableCode, leftCode}
-use Rattle.model.specs.declared.Refusal.the-variants.{BadTrailer, BadExtent, TableTooLarge}
+use Rattle.model.specs.declared.Refusal.the-variants.{BadTrailer, TableTooLarge}
 use Rattle.model.proofs.Grounds.{orElse-left, orElse-right, firstOf-each, ifEq-passes, ifEq-fails, ifLt-passes}
 use Rattle.model.proofs.Grounds.{ifLt-fails, ifLe-passes}
 
 module _ (cat : List ℕ) (ok : Accepted cat) where
   -- the steps of the check
-  no-size : sizeCode cat ≡ 0
-  unfolding checkCode
-  no-size = orElse-left _ _ ok
-
   after-size : orElse (trailerCode cat) (orElse (firstOf (tables cat) 0 (tableCode cat)) (leftCode cat)) ≡ 0
   unfolding checkCode
   after-size = orElse-right _ _ ok
@@ -33,14 +29,6 @@ module _ (cat : List ℕ) (ok : Accepted cat) where
 
   no-table-left : orElse (firstOf (tables cat) 0 (tableCode cat)) (leftCode cat) ≡ 0
   no-table-left = orElse-right _ _ after-size
-
-  no-left : leftCode cat ≡ 0
-  no-left = orElse-right _ _ no-table-left
-
-  -- 1: the file is long enough
-  pub accepted-size : smallestFile ≤ length cat
-  unfolding sizeCode
-  accepted-size = ifLt-fails _ _ _ _ (omega arith) no-size
 
   -- 2: there is a table, there are not too many, and the trailer ends the file
   pub accepted-some : 0 < tables cat
@@ -62,21 +50,12 @@ module _ (cat : List ℕ) (ok : Accepted cat) where
   accepted-trailer =
       ifEq-passes _ _ _ _ (omega arith) (sym (ifLt-no (number BadTrailer) accepted-tables) ∙ after-some)
 
-  -- 3: nothing is left after the last table
-  pub accepted-left : tableEnd cat (tables cat - 1) ≡ trailer cat
-  unfolding leftCode
-  accepted-left = ifEq-passes _ _ _ _ (omega arith) no-left
-
   module _ (t : ℕ) (exists : t < tables cat) where
     -- the steps of the check of a table
     no-table : tableCode cat t ≡ 0
     no-table =
         subst (λ (i : ℕ). tableCode cat i ≡ 0) (zero-add t)
         (firstOf-each (tables cat) 0 (tableCode cat) (orElse-left _ _ no-table-left) t exists)
-
-    no-head : headCode cat t ≡ 0
-    unfolding tableCode
-    no-head = orElse-left _ _ no-table
 
     after-head : orElse (boundCode cat t)
         (orElse (parentCode cat t)
@@ -108,16 +87,7 @@ module _ (cat : List ℕ) (ok : Accepted cat) where
         subst (λ (i : ℕ). rowCode cat t i ≡ 0) (zero-add k)
         (firstOf-each (rows cat t) 0 (rowCode cat t) (orElse-right _ _ after-width) k l)
 
-    -- 3: the table starts where it must, and its first 6 bytes and its rows end at or before the trailer
-    pub accepted-start : tableAt cat t ≡ startOf cat t
-    unfolding headCode
-    accepted-start = ifEq-passes _ _ _ _ (omega arith) no-head
-
-    pub accepted-head : tableAt cat t + 6 ≤ trailer cat
-    unfolding headCode
-    accepted-head =
-        ifLe-passes _ _ _ _ (omega arith) (sym (ifEq-yes (number BadExtent) accepted-start) ∙ no-head)
-
+    -- 3: the table's rows end at or before the trailer
     pub accepted-end : tableEnd cat t ≤ trailer cat
     unfolding extentCode
     accepted-end = ifLe-passes _ _ _ _ (omega arith) (orElse-left _ _ after-width)
@@ -132,11 +102,7 @@ module _ (cat : List ℕ) (ok : Accepted cat) where
     accepted-rows =
         ifLt-fails _ _ _ _ (omega arith) (sym (ifLt-no (number TableTooLarge) accepted-columns) ∙ no-bound)
 
-    -- 5: the root has no parent table, and any other's is lower-numbered
-    pub accepted-root : t ≡ 0 → parent cat t ≡ noParent
-    unfolding parentCode
-    accepted-root e = ifEq-passes _ _ _ _ (omega arith) (sym (ifEq-yes _ e) ∙ no-parent)
-
+    -- 5: the parent of every table but the root is lower-numbered
     pub accepted-parent : 0 < t → parent cat t < t
     unfolding parentCode
     accepted-parent h =
@@ -148,11 +114,7 @@ module _ (cat : List ℕ) (ok : Accepted cat) where
     unfolding widthCode
     accepted-visible = ifLt-fails _ _ _ _ (omega arith) no-width
 
-    -- 7: a root row has no parent row, and any other's is one of the parent table's rows
-    pub accepted-root-row : t ≡ 0 → (k : ℕ) → k < rows cat t → parentRow cat t k ≡ noParent
-    unfolding rowCode
-    accepted-root-row e k l = ifEq-passes _ _ _ _ (omega arith) (sym (ifEq-yes _ e) ∙ no-row k l)
-
+    -- 7: the parent row of every row but the root's is one of the parent table's rows
     pub accepted-row : 0 < t → (k : ℕ) → k < rows cat t → parentRow cat t k < rows cat (parent cat t)
     unfolding rowCode
     accepted-row h k l =

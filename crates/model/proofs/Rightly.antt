@@ -4,11 +4,9 @@ use mathlib.Core.Path.{_≡_, refl, sym, ap, _∙_}
 use mathlib.Core.Logic.{_⊎_, inl, inr, _↔_}
 use mathlib.Core.List.{List, [], _∷_, _++_}
 use native.Mathlib.Nat.{add-zero}
-use native.Mathlib.Decide.{ℕ-discrete}
 use native.Mathlib.Omega.{arith}
-use lib.ListN.{length, take, drop, getD, replicate, length-append, length-drop}
+use lib.ListN.{length, take, drop, getD, replicate}
 use lib.Seq.{take-append-seam, drop-append-seam}
-use Rattle.columns.specs.Test.{ifEq}
 use Rattle.columns.proofs.Test.{ifEq-yes, ifEq-no}
 use Rattle.model.specs.Bounds.{workBound}
 use Rattle.model.specs.Refusal.{number}
@@ -18,7 +16,7 @@ use Rattle.model.specs.Demand.{held, setsPassed, entryCount, Rightly}
 use Rattle.model.specs.declared.Refusal.the-variants.{TooFewWords, PastTheEnd, RunTooShort}
 use Rattle.model.proofs.Calls.{Outcome, few, past, short, none, outcome}
 use Rattle.model.proofs.Grounds.{reply-refused, reply-answered}
-use Rattle.model.proofs.Stops.{passed-stops, written-fits}
+use Rattle.model.proofs.Stops.{passed-stops}
 
 -- what a code leaves in the run and in the work words
 pub run-answered : {A : Type 0} (code : ℕ) (es run : List A) → code ≡ 0
@@ -173,18 +171,3 @@ pub obeys-rightly : {A : Type 0} (cs : List (List A)) (s : Seen A)
     → Obeys cs (callCode cs (s .place) (s .budget) (length (s .run)) (length (s .work))) s → Rightly cs s
 obeys-rightly cs s o =
     by-outcome cs s _ (outcome cs (s .place) (s .budget) (length (s .run)) (length (s .work))) o
-
--- the run keeps its length: what is written fits
-pub run-keeps-length : {A : Type 0} (code g : ℕ) (cs : List (List A)) (run : List A)
-    → length (runAfter code (written g (length run) cs) run) ≡ length run
-unfolding runAfter
-run-keeps-length {A} code g cs run = go (ℕ-discrete code 0)
-  where
-    es : List A
-    es = written g (length run) cs
-
-    go : Dec (code ≡ 0) → length (ifEq code 0 (es ++ drop (length es) run) run) ≡ length run
-    go (yes e) =
-        ap length (ifEq-yes run e) ∙ length-append es (drop (length es) run)
-        ∙ omega (arith, length-drop (length es) run, written-fits g (length run) cs)
-    go (no n) = ap length (ifEq-no (es ++ drop (length es) run) n)

@@ -9,7 +9,7 @@ use mathlib.Core.Bool.{Bool, true, false}
 use native.Mathlib.Decide.{ℕ-discrete}
 use native.Mathlib.Omega.{arith}
 use lib.Dec.{T}
-use lib.ListN.{length, drop, getD, length-append}
+use lib.ListN.{length, getD, length-append}
 use lib.Pow.{pow-mono}
 use Rattle.columns.specs.Bound.{columnBound}
 use Rattle.columns.specs.Test.{pick}
@@ -23,7 +23,7 @@ use Rattle.model.specs.Listed.{listed}
 use Rattle.model.specs.Entry.{entry}
 use Rattle.model.specs.Listing.{Listing, widthOf, rightsOf, entriesOf, cellsOf, cellsFrom, cells, Bounded}
 use Rattle.model.specs.Listing.{RowRight, ordinary}
-use Rattle.model.specs.Calls.{flat, roomCode}
+use Rattle.model.specs.Calls.{flat}
 use Rattle.model.specs.List.{listCode}
 use Rattle.model.specs.declared.Refusal.the-variants.{RunTooShort}
 use Rattle.model.specs.declared.Entry.{Entry}
@@ -31,7 +31,7 @@ use Rattle.model.proofs.Truth.{is-false, decided}
 use Rattle.model.proofs.View.{holds-is}
 use Rattle.model.proofs.Listed.{listed-is}
 use Rattle.model.proofs.Rights.{Ascending, rights-ascending, rights-length, ordinary-bounded, ordinary-row}
-use Rattle.model.proofs.Calls.{room-fit-at, Outcome, few, past, short, none, outcome}
+use Rattle.model.proofs.Calls.{Outcome, few, past, short, none, outcome}
 use Rattle.model.proofs.Listing.{places-from, cells-length}
 use Rattle.model.proofs.Complete.{after-none}
 
@@ -144,10 +144,6 @@ module _ (l : Listing) (bounded : Bounded l) (rowed : RowRight l) where
   -- the set at a place has 16 entries at most
   pub cell-short : (p : ℕ) → length (getD (cells l) p []) ≤ columnBound
   cell-short p = short-at p (cells l) all-short
-
-  -- so a run of 16 records is never too short for the next set
-  pub never-13 : (place budget room : ℕ) → columnBound ≤ room → roomCode budget room (drop place (cells l)) ≡ 0
-  never-13 place budget room h = room-fit-at budget room place (cells l) (λ _ _. omega (arith, cell-short place))
 
   -- how many entries there are at most
   pub listing-few : length (flat (cells l)) ≤ columnBound * length (cells l)

@@ -60,19 +60,12 @@ module _ {A : Type 0} where
           → Halts (c ∷ cs) (suc g) r (passed (suc g) r (c ∷ cs))
       fitting t h = rw (passed-fit (suc g) r c cs (omega arith) h) (halts-fit (suc g) r _ c cs (omega arith) h t)
 
-  -- what is passed is in the budget and in range, fits, and stops for a reason
-  pub passed-in-budget : (g r : ℕ) (cs : List (List A)) → passed g r cs ≤ g
-  passed-in-budget g r cs = passed-halts cs g r .inBudget
-
+  -- what is passed is in range and fits
   pub passed-in-range : (g r : ℕ) (cs : List (List A)) → passed g r cs ≤ length cs
   passed-in-range g r cs = passed-halts cs g r .inRange
 
   pub passed-fits : (g r : ℕ) (cs : List (List A)) → length (flat (take (passed g r cs) cs)) ≤ r
   passed-fits g r cs = passed-halts cs g r .fits
-
-  pub passed-reason : (g r : ℕ) (cs : List (List A))
-      → (passed g r cs ≡ g) ⊎ ((passed g r cs ≡ length cs) ⊎ (r < length (flat (take (suc (passed g r cs)) cs))))
-  passed-reason g r cs = passed-halts cs g r .reason
 
   pub written-fits : (g r : ℕ) (cs : List (List A)) → length (written g r cs) ≤ r
   unfolding written

@@ -1,9 +1,9 @@
 -- What a left side gives, by its leaders; and its minimal rights: those that it gives and that need each of its
 -- members.
 use Prim.Native.Nat.{ℕ, suc, _-_, _%_, _^_, _≤_, _<_}
-use mathlib.Core.Path.{_≡_, refl, sym, ap, subst, _∙_}
+use mathlib.Core.Path.{_≡_, sym, ap, subst, _∙_}
 use mathlib.Core.Logic.{_↔_}
-use mathlib.Core.Bool.{Bool, true, false}
+use mathlib.Core.Bool.{Bool, true}
 use mathlib.Core.List.{List}
 use native.Mathlib.Nat.{mod-lt}
 use native.Mathlib.Decide.{ℕ-discrete, decLt}
@@ -35,12 +35,6 @@ use Rattle.partition.specs.Partition.{Led, Back, Gives, GivenBelow, Give
 pub led-back : (keys : List ℕ) (n end x : ℕ) (leaders : List ℕ) (r : ℕ) → Led keys n end x leaders r → Back leaders end
 led-back keys n end x leaders r led q l = omega (arith, led .leads q l, leader-le (keyView keys n end) x q)
 
--- a test that passes exactly if another does equals it
-test-is : (b c : Bool) → (b ≡ true) ↔ (c ≡ true) → b ≡ c
-test-is true c h = sym (h .0 refl)
-test-is false true h = h .1 refl
-test-is false false h = refl
-
 module _ (keys : List ℕ) (n end x : ℕ) (leaders : List ℕ) (followers : ℕ) (few : n ≤ columnBound)
     (led : Led keys n end x leaders followers) where
   -- the row
@@ -71,10 +65,6 @@ module _ (keys : List ℕ) (n end x : ℕ) (leaders : List ℕ) (followers : ℕ
               (subst T (on-member (leaderOf (keyView keys n end) x q) q)
               (h .0 (holds-true (keyView keys n end) x a e) q m)),
         )
-
-    pub gives-holds : (r : Bool) → (r ≡ true) ↔ Gives keys leaders a end → holds (keyView keys n end) x a ≡ r
-    gives-holds r g =
-        test-is (holds (keyView keys n end) x a) r (λ e. g .1 (gives-is .1 e), λ e. gives-is .0 (g .0 e))
 
   -- where every row leads itself, the left side gives everything
   alone-gives : followers ≡ 0 → (a : ℕ) → holds (keyView keys n end) x a ≡ true
