@@ -4,10 +4,9 @@ use Prim.Native.Nat.{ℕ, zero, suc, _+_, _-_, _≤_, _<_}
 use native.Mathlib.Omega.{arith}
 use native.Mathlib.Nat.{zero-add, suc-add}
 use mathlib.Core.Logic.{_⊎_, inl, inr}
-use mathlib.Core.List.{List, [], _∷_, _++_}
+use mathlib.Core.List.{List, _∷_, _++_}
 use lib.ListN.{length, replicate, length-replicate, length-append}
 use lib.Seq.{take-at, drop-at}
-use types.Kit.{‵, ! }
 use Rattle.columns.proofs.Test.{ifLt-yes, ifLt-no}
 use Rattle.model.specs.Entry.{entry}
 use Rattle.model.specs.Reply.{listReply}

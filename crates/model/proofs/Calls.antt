@@ -11,7 +11,7 @@ use lib.ListN.{length, take, drop, getD, length-append, length-drop}
 use lib.Seq.{take-add, drop-cons}
 use Rattle.columns.proofs.Test.{ifEq-yes, ifEq-no, ifLt-yes, ifLt-no, ifLe-yes, ifLe-no}
 use Rattle.model.specs.Bounds.{workBound}
-use Rattle.model.specs.Refusal.{number, orElse}
+use Rattle.model.specs.Refusal.{number}
 use Rattle.model.specs.Question.{wordsCode}
 use Rattle.model.specs.Calls.{flat, passed, written, placeCode, roomCode, callCode}
 use Rattle.model.specs.declared.Refusal.the-variants.{TooFewWords, PastTheEnd, RunTooShort}

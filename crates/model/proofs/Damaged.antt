@@ -20,7 +20,7 @@ use Rattle.model.specs.Check.{parentCode, widthCode, extentCode, rowCode
 use Rattle.model.specs.Encode.{headOf, codesOf, trailerOf}
 use Rattle.model.specs.Damaged.{Damages, Only, groundsFrom, notZero, grounds, rowsOnly, manyRows, mostRows}
 use Rattle.model.specs.Damaged.{AtTheBounds, DamageOrder}
-use Rattle.model.proofs.Grounds.{orElse-none, firstOf-none}
+use Rattle.model.proofs.Grounds.{firstOf-none}
 use Rattle.model.proofs.Computes.{computes}
 
 -- 4,096 rows are too many to compute with: what stands in the first 6 bytes and in the trailer is looked up past the

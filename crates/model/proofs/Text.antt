@@ -19,7 +19,7 @@ use Rattle.model.specs.Listing.{cells, ordinary, Stands}
 use Rattle.model.specs.Calls.{flat}
 use Rattle.model.specs.Album.{album, albumLines}
 use Rattle.model.specs.Text.{decimal, decimalIn, rowWord, rightText, entryText, entryLine, linesOf, headLine}
-use Rattle.model.specs.Text.{refusedLine, listingText, answerText}
+use Rattle.model.specs.Text.{listingText, answerText}
 use Rattle.model.specs.declared.Entry.{Entry}
 use Rattle.model.proofs.Check.{accepted-tables, accepted-visible}
 use Rattle.model.proofs.Rights.{right-is}

@@ -1,13 +1,12 @@
 -- Listing calls, over any list of cells: for each place, what stands there. One call's stop rule, its refusals 11 to
 -- 13, what it replies and what it leaves in the lent run and work words. Nothing here knows what an entry is.
-use Prim.Native.Nat.{ℕ, zero, suc, _+_, _-_, _≤_, _<_}
+use Prim.Native.Nat.{ℕ, suc, _+_, _-_}
 use mathlib.Core.Path.{_≡_}
-use mathlib.Core.Logic.{_⊎_}
 use mathlib.Core.List.{List, [], _∷_, _++_}
-use lib.ListN.{length, take, drop, getD, replicate}
+use lib.ListN.{length, take, drop, replicate}
 use Rattle.columns.specs.Test.{ifEq, ifLt, ifLe}
 use Rattle.model.specs.Refusal.{number, orElse}
-use Rattle.model.specs.Reply.{Reply, refused, answered, replyOf}
+use Rattle.model.specs.Reply.{Reply, replyOf}
 use Rattle.model.specs.Question.{wordsCode}
 use Rattle.model.specs.declared.Refusal.the-variants.{PastTheEnd, RunTooShort}
 

@@ -2,7 +2,7 @@
 use Prim.Native.Nat.{ℕ, zero, suc, _+_, _-_, _*_, _^_}
 use mathlib.Core.List.{List}
 use lib.ListN.{length}
-use Rattle.columns.specs.Test.{ifEq, ifLt}
+use Rattle.columns.specs.Test.{ifEq}
 use Rattle.model.specs.Bounds.{tableBound}
 use Rattle.model.specs.Bytes.{u16At, u32At}
 

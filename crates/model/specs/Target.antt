@@ -7,7 +7,7 @@ use mathlib.Core.Bool.{Bool, not, _&&_, _||_}
 use lib.Dec.{eqb}
 use Rattle.columns.specs.Test.{ifEq, ifLt}
 use Rattle.model.specs.Bounds.{tableBound, missing}
-use Rattle.model.specs.Catalogue.{columns, parent, rows, parentRow, cell, visible, inherited}
+use Rattle.model.specs.Catalogue.{parent, rows, parentRow, cell, visible, inherited}
 use Rattle.model.specs.View.{View}
 
 -- the table that visible column v of a table belongs to, climbing n tables at most: itself, or the same of its parent

@@ -1,13 +1,13 @@
 -- The document's numbers: its bounds, the order of bytes, the number of each refusal, and the values of each answer.
 use Prim.Native.Nat.{ℕ}
 use mathlib.Core.Path.{_≡_}
-use mathlib.Core.List.{List, [], _∷_}
+use mathlib.Core.List.{[], _∷_}
 use lib.ListN.{take, drop}
 use Rattle.columns.specs.Bound.{columnBound}
 use Rattle.model.specs.Bounds.{tableBound, rowBound, workBound, smallestFile, noParent, missing, row, fileBound}
-use Rattle.model.specs.Bytes.{byteAt, u16At, u32At, bytes2, bytes4, Bytes}
-use Rattle.model.specs.Refusal.{number, lastRefusal, orElse, firstOf}
-use Rattle.model.specs.Reply.{Reply, refused, answered, replyOf, checkReply, askReply, pairReply, listReply}
+use Rattle.model.specs.Bytes.{u16At, u32At, bytes2, bytes4, Bytes}
+use Rattle.model.specs.Refusal.{number, lastRefusal}
+use Rattle.model.specs.Reply.{refused, answered, replyOf, checkReply, askReply, pairReply, listReply}
 use Rattle.model.specs.Reply.{packReply, openReply, entriesReply, verifyReply}
 use Rattle.model.specs.Catalogue.{cell}
 use Rattle.model.specs.Encode.{content, encode}

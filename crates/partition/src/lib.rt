@@ -116,7 +116,7 @@ pub fn leaders_of(
 }
 
 // Does every row have the key of its leader on member a? With the leaders on a left side: does it give member a?
-pub fn gives(keys: &[u16; SIZE], leaders: &[u16; ROWS], a: u32, end: usize) -> bool
+fn gives(keys: &[u16; SIZE], leaders: &[u16; ROWS], a: u32, end: usize) -> bool
     requires { ⌜ a < columnBound ⌝ }
     requires { ⌜ end ≤ rowBound ⌝ }
     requires { ⌜ Back (now leaders) end ⌝ }

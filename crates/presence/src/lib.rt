@@ -73,7 +73,7 @@ fn mark_sets(sets: &[u32; ROWS], end: usize, m: u32, plane: &mut [u32])
 }
 
 // The plane of backed left sides from the sets of the rows, among the sets of m columns.
-pub fn close_sets(sets: &[u32; ROWS], end: usize, m: u32, plane: &mut [u32])
+fn close_sets(sets: &[u32; ROWS], end: usize, m: u32, plane: &mut [u32])
     requires { ⌜ (end ≤ rowBound) × RoomFor m (now plane) × ((q : ℕ) → q < end → word (now sets) q < 2 ^ m) ⌝ }
     ensures { λ _. ⌜ ((v : View) (n : ℕ) → n ≤ m → PresentSets v n end (now (sets .entry))
         → BackedPlane v (now (plane .exit))) ⌝ }

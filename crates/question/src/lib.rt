@@ -1,4 +1,5 @@
-// Not for callers: the refusals of a question: those of the check, then 8 to 10, then 11, by number. A ground's code is the refusal's number, or 0 where there is none.
+// Not for callers: the refusals of a question: those of the check, then 8 to 10, then 11, by number. A ground's code
+// is the refusal's number, or 0 where there is none.
 // Relies on `grounds` for the check's grounds, on `layout` for what stands where and on `refusals` for the numbers.
 // Called by `dependency`.
 ghost use mathlib.Core.Path.{_≡_};
@@ -69,7 +70,7 @@ fn words_code(words: usize) -> u32
 }
 
 // The first ground against a target and two sides of it: 8, then 9, then 10.
-pub fn sides_code(cat: &[u8], target: u32, left: u32, right: u32) -> u32
+fn sides_code(cat: &[u8], target: u32, left: u32, right: u32) -> u32
     ensures { λ r. ⌜ r ≡ sidesCode (now (cat .entry)) target left right ⌝ }
 {
     let unknown_table = target_code(cat, target);

@@ -4,7 +4,6 @@
 // Relies on `partition` for the leaders of a left side and on the laws of `leaders`. Called by `dependency`.
 ghost use Prim.Native.Nat.{_≤_, _<_};
 ghost use mathlib.Core.Path.{_≡_};
-ghost use mathlib.Core.Bool.{not};
 ghost use lib.ListN.{getD, length};
 ghost use Rattle.columns.specs.Bound.{columnBound};
 ghost use Rattle.model.specs.Bounds.{row, rowBound};

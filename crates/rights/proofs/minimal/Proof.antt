@@ -1,5 +1,4 @@
 -- `rights::minimal` meets its contract, whatever the words hold.
-use Prim.Native.Nat.{ℕ}
 use mathlib.Core.Path.{sym, subst}
 use native.Mathlib.Omega.{arith}
 use denote.Ref.{now}

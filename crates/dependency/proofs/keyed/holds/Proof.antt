@@ -1,5 +1,5 @@
 -- `dependency::holds` meets its contract: by what the left side gives of the one right.
-use Rattle.dependency.proofs.Members.{posed-few, posed-short, posed-right, posed-holds}
+use Rattle.dependency.proofs.Members.{posed-few, posed-right, posed-holds}
 use borrow.Author.Needs.{needs}
 use Rattle.dependency.proofs.keyed.holds.Statement.{statement}
 use Rattle.dependency.proofs.keyed.holds.Tie as tie
