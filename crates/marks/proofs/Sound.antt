@@ -105,12 +105,12 @@ alone-is es target right m x plane closed narrow l = (
 
 -- what `entries_sound` promises, in words: the entries for the two are backed and not broken, and contain no other left
 -- that is listed for them, nor a listed key of the target if the right is a column
-pub sound-entries-is : (es : List Entry) (target right m : ℕ) (backed broken keys lefts : List ℕ)
+pub sound-for-is : (es : List Entry) (target right m : ℕ) (backed broken keys lefts : List ℕ)
     → LeftsClosed es target row m keys → LeftsClosed es target right m lefts → Each (NarrowLeft m target right) es
     → Each (SoundBy backed broken keys lefts m target right) es
     ↔ ((e : Entry) → List·Memᴰ e es → EntryFor target right e → (planeBit backed (e .left) ≡ 1)
     × (planeBit broken (e .left) ≡ 0) × NoOther es e × NoKey es e)
-sound-entries-is es target right m backed broken keys lefts key left narrow = (
+sound-for-is es target right m backed broken keys lefts key left narrow = (
   λ sound e i for. (
     sound e i for .0,
     sound e i for .1,

@@ -262,27 +262,28 @@ module _ (es : List Entry) (o out : List ℕ) (k i : ℕ) {e : Entry} {out′ : 
       ∙ ap (λ (x : List Entry). entriesBytes x ++ drop (entryBytes * k) o) (take-all k es (omega arith))) y
 
 -- where a run of steps stands: what holds between two steps, with an output as long as at the start
-pub record Stands (es : List Entry) (o : List ℕ) (s : Packing) (out : List ℕ) : Type 0 where
+pub record Underway (es : List Entry) (o : List ℕ) (s : Packing) (out : List ℕ) : Type 0 where
   pub on : On es o s out
   pub long : length out ≡ length o
 
 module _ (es : List Entry) (o : List ℕ) where
-  pub stands-first : (r : Packing) (out : List ℕ) → ChecksBegun (length es) o r out → length out ≡ length o
-      → Stands es o r out
-  stands-first r out h l = record { on = h .on es refl; long = l }
+  pub underway-first : (r : Packing) (out : List ℕ) → ChecksBegun (length es) o r out → length out ≡ length o
+      → Underway es o r out
+  underway-first r out h l = record { on = h .on es refl; long = l }
 
-  module _ (s : Packing) (out : List ℕ) (h : Stands es o s out) where
-    pub stands-ready : s .going ≡ true → Steppable (length es) s out
-    stands-ready g =
+  module _ (s : Packing) (out : List ℕ) (h : Underway es o s out) where
+    pub underway-ready : s .going ≡ true → Steppable (length es) s out
+    underway-ready g =
         record {
           going = g;
           next = h .on .next g;
           room = λ w. omega (arith, has-room es (length o) (h .on .sound g w), h .long);
         }
 
-    pub stands-next : (r : Packing) (out′ : List ℕ) → Stepped (length es) s (getD es (s .at) (entry 0 0 0)) out r out′
-        → length out′ ≡ length out → Stands es o r out′
-    stands-next r out′ t l = record { on = t .on es o refl refl (h .on); long = l ∙ h .long }
+    pub underway-next : (r : Packing) (out′ : List ℕ) → Stepped (length es) s (getD es (s .at) (entry 0 0 0)) out r out′
+        → length out′ ≡ length out → Underway es o r out′
+    underway-next r out′ t l = record { on = t .on es o refl refl (h .on); long = l ∙ h .long }
 
-    pub stands-last : s .going ≡ false → (packReply (s .answer) ≡ packMeaning es (length o)) × (out ≡ outputAfter es o)
-    stands-last g = (h .on .answered g, h .on .output g)
+    pub underway-last : s .going ≡ false
+        → (packReply (s .answer) ≡ packMeaning es (length o)) × (out ≡ outputAfter es o)
+    underway-last g = (h .on .answered g, h .on .output g)

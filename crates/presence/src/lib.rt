@@ -73,7 +73,7 @@ fn mark_sets(sets: &[u32; ROWS], end: usize, m: u32, plane: &mut [u32])
 }
 
 // The plane of backed left sides from the sets of the rows, among the sets of m columns.
-fn close_sets(sets: &[u32; ROWS], end: usize, m: u32, plane: &mut [u32])
+fn close_rows(sets: &[u32; ROWS], end: usize, m: u32, plane: &mut [u32])
     requires { ⌜ (end ≤ rowBound) × RoomFor m (now plane) × ((q : ℕ) → q < end → word (now sets) q < 2 ^ m) ⌝ }
     ensures { λ _. ⌜ ((v : View) (n : ℕ) → n ≤ m → PresentSets v n end (now (sets .entry))
         → BackedPlane v (now (plane .exit))) ⌝ }
@@ -162,5 +162,5 @@ pub fn backed_plane(cat: &[u8], target: u32, n: u32, m: u32, plane: &mut [u32])
     let mut sets = [0; ROWS];
     lay(cat, target, n, &mut sets);
     let end = index(rows(cat, target));
-    close_sets(&sets, end, m, plane);
+    close_rows(&sets, end, m, plane);
 }

@@ -14,7 +14,8 @@ use Rattle.columns.specs.Test.{pick}
 use Rattle.columns.proofs.Test.{ifEq-yes, ifEq-no}
 use Rattle.model.specs.Bounds.{row, rowBound}
 use Rattle.leaders.specs.Keys.{keyAt}
-use Rattle.search.specs.Strays.{sameRight, strays, follows, Inside, MarkedMore, MarkedBelow, rowAfter, NoneBefore}
+use Rattle.search.specs.Strays.{sameRight, strays, follows, LowerLeaders, MarkedMore, MarkedBelow, rowAfter}
+use Rattle.search.specs.Strays.{NoneBefore}
 
 -- the test of a row, where the right side is the row and where it is a member
 module _ (keys leaders : List ℕ) (a q : ℕ) where
@@ -94,7 +95,7 @@ unfolding rowAfter
 after-end marks p end n = sym (ifEq-no (p + 1) n)
 
 -- how far the search has come, where no leader is above its row and each that a row strays from is marked
-module _ (keys leaders : List ℕ) (a end : ℕ) (inside : Inside end leaders) where
+module _ (keys leaders : List ℕ) (a end : ℕ) (led : LowerLeaders end leaders) where
   pub before-none : NoneBefore keys leaders a end 0 0
   before-none r l s = at (ℕ-discrete 0 (getD leaders r 0))
     where
@@ -118,7 +119,7 @@ module _ (keys leaders : List ℕ) (a end : ℕ) (inside : Inside end leaders) w
       first : p ≡ getD leaders r 0 → q ≤ r
       first f =
           let m : getD marks p 0 ≡ 1 = subst (λ (j : ℕ). getD marks j 0 ≡ 1) (sym f) (marked r k s) in
-          let low = inside .lower r k in
+          let low = led .lower r k in
           omega (arith, after-marked marks p end m, apart r s)
 
       at : (p < getD leaders r 0) ⊎ ((p ≡ getD leaders r 0) × (0 ≤ r))
@@ -159,7 +160,7 @@ module _ (keys leaders : List ℕ) (a end : ℕ) (inside : Inside end leaders) w
   before-all p l h r k s = at (h r k s)
     where
       low : getD leaders r 0 ≤ r
-      low = inside .lower r k
+      low = led .lower r k
 
       at : (p < getD leaders r 0) ⊎ ((p ≡ getD leaders r 0) × (0 ≤ r)) → ⊥
       at (inl g) = omega (arith, low)

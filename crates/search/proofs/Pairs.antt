@@ -16,7 +16,7 @@ use Rattle.leaders.specs.Keys.{keyView}
 use Rattle.leaders.proofs.Leaders.{leader-le, no-stray-holds, first-pair}
 use Rattle.leaders.proofs.Keys.{key-equivalence}
 use Rattle.partition.specs.Partition.{Led}
-use Rattle.search.specs.Strays.{sameRight, strays, Inside, FirstStray, rowsFound}
+use Rattle.search.specs.Strays.{sameRight, strays, LowerLeaders, FirstStray, rowsFound}
 use Rattle.search.specs.declared.Found.{Found}
 use Rattle.search.specs.declared.Found.the-variants.{Pair, Nothing}
 
@@ -60,7 +60,7 @@ module _ (keys leaders : List ℕ) (n end x a : ℕ)
       (λ q s. none q (s .exists) (is-strays q s))))
 
 -- the leaders are no higher than their rows
-pub led-inside : {keys leaders : List ℕ} {n end x r : ℕ} → end ≤ rowBound → Led keys n end x leaders r
-    → Inside end leaders
-led-inside {keys} {leaders} {n} {end} {x} short led =
+pub led-lower : {keys leaders : List ℕ} {n end x r : ℕ} → end ≤ rowBound → Led keys n end x leaders r
+    → LowerLeaders end leaders
+led-lower {keys} {leaders} {n} {end} {x} short led =
     record { short = short; lower = λ q l. omega (arith, led .leads q l, leader-le (keyView keys n end) x q) }

@@ -26,7 +26,7 @@ unfoldable pub follows : List ℕ → List ℕ → ℕ → ℕ → ℕ → Bool
 follows keys leaders a p q = eqb (getD leaders q 0) p && strays keys leaders a q
 
 -- the leaders of the rows below the end are no higher than these
-pub record Inside (end : ℕ) (leaders : List ℕ) : Type 0 where
+pub record LowerLeaders (end : ℕ) (leaders : List ℕ) : Type 0 where
   pub short : end ≤ rowBound
   pub lower : (q : ℕ) → q < end → getD leaders q 0 ≤ q
 

@@ -9,7 +9,7 @@ ghost use Rattle.columns.specs.Bound.{columnBound};
 ghost use Rattle.model.specs.Bounds.{row, rowBound};
 ghost use Rattle.model.specs.Pair.{firstPair};
 ghost use Rattle.leaders.specs.Keys.{keyView};
-ghost use Rattle.search.specs.Strays.{Inside, strays as straysOf, MarkedMore, MarkedBelow, FirstStray};
+ghost use Rattle.search.specs.Strays.{LowerLeaders, strays as straysOf, MarkedMore, MarkedBelow, FirstStray};
 ghost use Rattle.search.specs.Strays.{rowsFound, follows as followsOf, rowAfter};
 use leaders::ROWS;
 use leaders::SIZE;
@@ -63,7 +63,7 @@ fn mark_leaders(
     end: usize,
     marks: &mut [u8; ROWS],
 )
-    requires { ⌜ Inside end (now leaders) × ((right ≡ row → ⊥) → right < columnBound)
+    requires { ⌜ LowerLeaders end (now leaders) × ((right ≡ row → ⊥) → right < columnBound)
         × (length (now marks) ≡ rowBound) ⌝ }
     ensures { λ _.
         ⌜ (length (now (marks .exit)) ≡ rowBound)
@@ -106,7 +106,7 @@ fn first_stray(
     right: u32,
     end: usize,
 ) -> Found
-    requires { ⌜ Inside end (now leaders) × ((right ≡ row → ⊥) → right < columnBound) ⌝ }
+    requires { ⌜ LowerLeaders end (now leaders) × ((right ≡ row → ⊥) → right < columnBound) ⌝ }
     requires { ⌜ MarkedBelow (now keys) (now leaders) right end (now marks) ⌝ }
     ensures { λ r. ⌜ FirstStray (now (keys .entry)) (now (leaders .entry)) right end r ⌝ }
 {

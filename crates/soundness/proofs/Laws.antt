@@ -24,7 +24,7 @@ use Rattle.evidence.specs.Lists.{Each}
 use Rattle.evidence.specs.Sides.{SidesFit, LeftsWithin}
 use Rattle.evidence.proofs.Sides.{sides-own, lefts-narrow}
 use Rattle.marks.specs.Listed.{LeftsClosed, SoundBy}
-use Rattle.marks.proofs.Sound.{sound-entries-is}
+use Rattle.marks.proofs.Sound.{sound-for-is}
 use Rattle.soundness.specs.Sound.{FitsFor, SoundIn, SoundFor}
 
 -- a left is not broken on the plane of a right exactly if it gives the right
@@ -68,7 +68,7 @@ sound-in v es target n m a right seeds backed broken keys lefts {r} nm few an er
         ↔ ((e : Entry) → List·Memᴰ e es → EntryFor target right e → (planeBit backed (e .left) ≡ 1)
         × (planeBit broken (e .left) ≡ 0) × NoOther es e × NoKey es e)
     words =
-        sound-entries-is es target right m backed broken keys lefts key left
+        sound-for-is es target right m backed broken keys lefts key left
         (lefts-narrow n m target right es nm narrow)
 
     below : (e : Entry) → List·Memᴰ e es → EntryFor target right e → e .left < 2 ^ v .members

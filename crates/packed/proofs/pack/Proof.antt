@@ -65,7 +65,7 @@ use Rattle.packing.specs.declared.Packing.{Packing}
 use Rattle.packing.specs.Packing.{ChecksBegun, Stepped, steps}
 use Rattle.packing.proofs.Packing as P
 use Rattle.packing.proofs.Packing.Laws as P′
-use Rattle.packing.proofs.Progress.{Stands, stands-first, stands-ready, stands-next, stands-last}
+use Rattle.packing.proofs.Progress.{Underway, underway-first, underway-ready, underway-next, underway-last}
 use Rattle.lent.proofs.Walk.{full, empty, _◂_, leaves, met}
 use Rattle.lent.proofs.Lent as lent
 use Rattle.packed.proofs.Rest.{after}
@@ -223,7 +223,7 @@ module _ {M : Type 1} (𝓤 : URA M) (H : Heap 𝓤) (A : Atoms 𝓤) (W : Given
 
   -- where the walk stands
   abbrev State : Type 0
-  State = (s : Packing) × (out : List ℕ) × (known : Stands es out₀ s out) × Is P.the-row s (packVals s)
+  State = (s : Packing) × (out : List ℕ) × (known : Underway es out₀ s out) × Is P.the-row s (packVals s)
 
   abbrev Nearer : State → State → Type 0
   Nearer t u = steps k (t .0) < steps k (u .0)
@@ -231,7 +231,7 @@ module _ {M : Type 1} (𝓤 : URA M) (H : Heap 𝓤) (A : Atoms 𝓤) (W : Given
   Nearer-wf : WellFounded Nearer
   Nearer-wf = InvImage·wf (λ (t : State). steps k (t .0)) (Nat·lt-wfRel .wf)
 
-  exits : (s : Packing) (out : List ℕ) → Stands es out₀ s out → s .going ≡ false
+  exits : (s : Packing) (out : List ℕ) → Underway es out₀ s out → s .going ≡ false
       → Is L.the-row (s .answer) (answerVal (s .answer) ∷ [])
       → ent 𝓤 (⋆ 𝓤 H A (‵ (outOwn out) ∷ ‵ (flft κ₁ q₁) ∷ ‵ entriesOwn ∷ ‵ (flft κ₀ q₀) ∷ []))
       (Post (answerVal (s .answer)))
@@ -240,7 +240,7 @@ module _ {M : Type 1} (𝓤 : URA M) (H : Heap 𝓤) (A : Atoms 𝓤) (W : Given
       suffices ! _ (ends-at 𝓤 H A pack.ended stayed (pack.clauses 𝓤 H A mem run) W bound (answerVal (s .answer))
       (s .answer)
       (tt, (out, tt)) (tt, (known .long, tt))) $
-      says ! (stands-last es out₀ s out known stopped) $
+      says ! (underway-last es out₀ s out known stopped) $
       nothing ! $ move ! (2 ∷ 0 ∷ []) $ join ! $ move ! (3 ∷ 0 ∷ []) $ join ! $ frame ! $
       nothing ! $ move ! (1 ∷ 0 ∷ []) $ fjoin ! $ move ! (1 ∷ 0 ∷ []) $ fjoin ! $ frame ! $
       owned ! L.the-row (Is L.the-row) (enum.makes L.the-type L′.the-plain 𝓤 H A) (s .answer) _ is $ done !
@@ -317,7 +317,7 @@ module _ {M : Type 1} (𝓤 : URA M) (H : Heap 𝓤) (A : Atoms 𝓤) (W : Given
           (afterBlock 𝓤 H (afterSeq 𝓤 H (Wp 𝓤 H C Λ E mir.t-6 (atReturn 𝓤 H E Post)) (atReturn 𝓤 H E Post)))
 
       -- the call of `step` with the entry that was read
-      steps-on : (s : Packing) (out : List ℕ) (known : Stands es out₀ s out) (is : Is P.the-row s (packVals s))
+      steps-on : (s : Packing) (out : List ℕ) (known : Underway es out₀ s out) (is : Is P.the-row s (packVals s))
           → s .going ≡ true → Is R.the-row (getD es (s .at) zeros) (entryVals (getD es (s .at) zeros))
           → Sq W (‵ (outRow out) ∷ ‵ entriesOwn ∷ ‵ (flft κ₀ q₀) ∷ ‵ outShuts
           ∷ Locals (holds R′.mir l₆ (struct.val R.the-type R′.the-laws (getD es (s .at) zeros)) []) (stateAt s))
@@ -344,7 +344,7 @@ module _ {M : Type 1} (𝓤 : URA M) (H : Heap 𝓤) (A : Atoms 𝓤) (W : Given
           -- [ν's token; what `step` is passed; what is lent; the entries; their token; what shuts the output; the
           -- locals]
           calls-last ! fm step.ended (step.clauses 𝓤 H A mem run) known-step (to-step ν δ out s (getD es (s .at) zeros))
-          (factI 𝓤 _ (emp 𝓤) (stands-ready es out₀ s out known going))
+          (factI 𝓤 _ (emp 𝓤) (underway-ready es out₀ s out known going))
           (and-then ! (load ! (from ! (stop !)) (look ! 27 refl))
           (and-then ! (load ! (from ! (stop !)) (look ! 25 refl))
           (and-then ! (load ! (from ! (stop !)) (look ! 21 refl)) (and-then ! (load ! (from ! (stop !)) (look ! 5 refl))
@@ -362,19 +362,19 @@ module _ {M : Type 1} (𝓤 : URA M) (H : Heap 𝓤) (A : Atoms 𝓤) (W : Given
           again ! Nearer At (s, out, known, is) (
             r,
             ws .1 .1 .1 .0,
-            stands-next es out₀ s out known r (ws .1 .1 .1 .0) (told .ensured) (told .kept .1 .1 .1 .0 .1),
+            underway-next es out₀ s out known r (ws .1 .1 .1 .0) (told .ensured) (told .kept .1 .1 .1 .0 .1),
             told .settled,
           )
           (told .ensured .fewer))))
 
-      inside : (s : Packing) (out : List ℕ) → Stands es out₀ s out → s .going ≡ true → s .at < k
+      inside : (s : Packing) (out : List ℕ) → Underway es out₀ s out → s .going ≡ true → s .at < k
       inside s out known going = known .on .next going
 
-      near : (s : Packing) (out : List ℕ) → Stands es out₀ s out → s .going ≡ true → s .at * 4 < 2 ^ 64
+      near : (s : Packing) (out : List ℕ) → Underway es out₀ s out → s .going ≡ true → s .at * 4 < 2 ^ 64
       near s out known going = offset-fits (s .at) k (inside s out known going) (ge .1)
 
       -- a turn that passes an entry
-      goes-on : (s : Packing) (out : List ℕ) (known : Stands es out₀ s out) (is : Is P.the-row s (packVals s))
+      goes-on : (s : Packing) (out : List ℕ) (known : Underway es out₀ s out) (is : Is P.the-row s (packVals s))
           (going : s .going ≡ true)
           → Sq W (At (s, out, known, is)) (runs C Λ E passing (anyQ (Turned (s, out, known, is))))
       unfolding afterTurn
@@ -461,7 +461,7 @@ module _ {M : Type 1} (𝓤 : URA M) (H : Heap 𝓤) (A : Atoms 𝓤) (W : Given
           rewrite ! 24 (λ (u : Val). ‵ (fat fullShare P′.mir l₄ 0 u)) (told .value) refl $
           forget ! 18 refl $ forget ! 16 refl $
           first ! $ blocks ! $ loops ! 𝓣 Nearer Nearer-wf At turns
-          (s, ws .1 .0, stands-first es out₀ s (ws .1 .0) (told .ensured) (told .kept .1 .0 .1), told .settled))))
+          (s, ws .1 .0, underway-first es out₀ s (ws .1 .0) (told .ensured) (told .kept .1 .0 .1), told .settled))))
 
     -- the output is opened
     begins : ent 𝓤 (onEntry 𝓤 H A pack.signature κs (bound .0 .1) (bound .0 .3) at)

@@ -36,8 +36,8 @@ laid c =
     (λ (end : ℕ). PresentSets (view (now (a .cat)) (a .target)) (a .n) end (c .before .before .lay .last .1 .1 .1 .0))
     (sym (ends c)) (c .before .before .lay .ensures)
 
-close-sets-requires : tie.Need-close-sets-requires
-close-sets-requires c κs =
+close-rows-requires : tie.Need-close-rows-requires
+close-rows-requires c κs =
     let s = c .before .before .before .before .before .before .before .before in (
       omega (
         arith,
@@ -55,10 +55,10 @@ same-length c = search needs
 returns : tie.Need-returns
 returns c =
     let s = c .before .before .before .before .before .before .before .before .before .before .before in
-    c .before .before .close-sets .ensures (view (now (s .args .cat)) (s .args .target)) (s .args .n) (s .pre .1 .1 .1)
+    c .before .before .close-rows .ensures (view (now (s .args .cat)) (s .args .target)) (s .args .n) (s .pre .1 .1 .1)
     (laid (c .before .before .before .before .before))
 
 pub backed-plane-spec : {M : Type 1} → statement M
 backed-plane-spec =
     tie.close
-    (tie.spec lay-requires rows-requires index-requires close-sets-requires same-length returns)
+    (tie.spec lay-requires rows-requires index-requires close-rows-requires same-length returns)

@@ -1,7 +1,7 @@
 -- `search::first_pair` meets its contract: the first row that strays from its leader.
 use denote.Ref.{now}
 use borrow.Author.Needs.{needs}
-use Rattle.search.proofs.Pairs.{led-inside, stray-first}
+use Rattle.search.proofs.Pairs.{led-lower, stray-first}
 use Rattle.search.proofs.first_pair.Statement.{statement}
 use Rattle.search.proofs.first_pair.Tie as tie
 
@@ -11,12 +11,12 @@ leaders-of-requires c κs = search needs
 mark-leaders-requires : tie.Need-mark-leaders-requires
 mark-leaders-requires c κs =
     let s = c .before .before .before .before .pre in
-    (led-inside (s .1) (c .before .before .leaders-of .ensures), s .2, search needs)
+    (led-lower (s .1) (c .before .before .leaders-of .ensures), s .2, search needs)
 
 first-stray-requires : tie.Need-first-stray-requires
 first-stray-requires c κs =
     let s = c .before .before .before .before .before .before .before .pre in (
-      (led-inside (s .1) (c .before .before .before .before .before .leaders-of .ensures), s .2),
+      (led-lower (s .1) (c .before .before .before .before .before .leaders-of .ensures), s .2),
       c .before .before .mark-leaders .ensures .1,
     )
 

@@ -1,4 +1,4 @@
--- `presence::close_sets` meets its contract.
+-- `presence::close_rows` meets its contract.
 use native.Mathlib.Omega.{arith}
 use denote.Ref.{now}
 use borrow.Author.Needs.{needs}
@@ -6,8 +6,8 @@ use borrow.Author.Needs.{needs}
 use Rattle.planes.proofs.Bits.{seedWords-small}
 use Rattle.planes.proofs.Marks.{blank-room}
 use Rattle.planes.proofs.Backed.{marked-backed}
-use Rattle.presence.proofs.close_sets.Statement.{statement}
-use Rattle.presence.proofs.close_sets.Tie as tie
+use Rattle.presence.proofs.close_rows.Statement.{statement}
+use Rattle.presence.proofs.close_rows.Tie as tie
 
 slice-aggregate-mark-sets : tie.Need-slice-aggregate-mark-sets
 slice-aggregate-mark-sets c = search needs
@@ -38,8 +38,8 @@ returns c =
     marked-backed v n (s .args .m) 2048 (s .args .end) (now (s .args .sets)) _ _ laid h
     (c .before .before .before .before .before .before .mark-sets .ensures) (c .before .before .fill .ensures)
 
-pub close-sets-spec : {M : Type 1} → statement M
-close-sets-spec =
+pub close-rows-spec : {M : Type 1} → statement M
+close-rows-spec =
     tie.close
     (tie.spec
     slice-aggregate-mark-sets
