@@ -2,6 +2,7 @@
 // Relies on `pages` for the text and on `text` for writing it. The text is `answerText` of `model`: `print` writes it
 // page by page, and only reading and writing are beyond its contract.
 ghost use mathlib.Core.Path.{_≡_};
+ghost use mathlib.Core.Bool.{true};
 ghost use lib.ListN.{length};
 ghost use Rattle.model.specs.Text.{answerText};
 ghost use Rattle.pages.specs.Pages.{pageBound, wordCount, Lent};
@@ -10,6 +11,7 @@ use listing::RUN_BOUND;
 use model::FILE_BOUND;
 use pages::first_page;
 use pages::next_page;
+use text::Written;
 
 // How many bytes the line of an entry has at most, how many are kept for the head line, and how many a page has.
 const LINE_BOUND: usize = 13;
@@ -35,18 +37,30 @@ fn work_words() -> [u32; WORDS]
     [0; WORDS]
 }
 
-// Prints every page, and answers how many bytes were handed to standard output: as many as the whole text has.
-fn print(file: &[u8], out: &mut [u8], work: &mut [u32]) -> usize
+// Prints every page, and answers how many bytes were handed to standard output: as many as the whole text has, if all
+// were taken. After a page that was not taken whole none is printed, so that no line is put together from two.
+fn print(file: &[u8], out: &mut [u8], work: &mut [u32]) -> Written
     requires { ⌜ Lent (now out) (now work) ⌝ }
-    ensures { λ r. ⌜ r ≡ length (answerText (now (file .entry))) ⌝ }
+    ensures { λ r. ⌜ (r .taken ≡ true → r .bytes ≡ length (answerText (now (file .entry)))) ⌝ }
 {
     let mut page = first_page(file, out, work);
-    let mut sum = text::write(out, page.len);
+    let first = text::write(out, page.len);
+    if !first.taken {
+        return first;
+    }
+    let mut sum = first.bytes;
     while page.place < page.last {
         page = next_page(file, page, out, work);
-        sum += text::write(out, page.len);
+        let more = text::write(out, page.len);
+        if !more.taken {
+            return more;
+        }
+        sum += more.bytes;
     }
-    sum
+    Written {
+        bytes: sum,
+        taken: true,
+    }
 }
 
 fn main() {

@@ -61,7 +61,7 @@ readMeaning file from room = replyOf (readCode file) (length (readFrom file from
 unfoldable pub runRead : List ℕ → ℕ → List Entry → List Entry
 runRead file from run = runAfter (readCode file) (readFrom file from (length run)) run
 
--- the entry at a position of a list, and 'end' from its last entry on
+-- the entry at a position of a list, and 'end' behind its last entry
 unfoldable pub readAt : List Entry → ℕ → ReadAnswer
 readAt [] i = End
 readAt (e ∷ es) zero = Next e

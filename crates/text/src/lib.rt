@@ -65,13 +65,25 @@ pub fn put_entry(out: &mut [u8], at: usize, e: Entry) -> usize
     put_right(out, next, e.right)
 }
 
-// Writes the first n bytes to standard output, and answers how many that are: none where there are fewer.
-pub fn write(out: &[u8], n: usize) -> usize
-    ensures { λ r. ⌜ r ≡ ifLe n (length (now (out .entry))) n 0 ⌝ }
+// What was handed to standard output: how many bytes, and whether all of them were taken.
+pub struct Written {
+    pub bytes: usize,
+    pub taken: bool,
+}
+
+// Writes the first n bytes to standard output: none where there are fewer.
+pub fn write(out: &[u8], n: usize) -> Written
+    ensures { λ r. ⌜ r .bytes ≡ ifLe n (length (now (out .entry))) n 0 ⌝ }
 {
     if n <= out.len() {
-        io::write_all(STDOUT_FILENO, &out[..n]);
-        return n;
+        let taken = io::write_all(STDOUT_FILENO, &out[..n]);
+        return Written {
+            bytes: n,
+            taken: taken,
+        };
     }
-    0
+    Written {
+        bytes: 0,
+        taken: false,
+    }
 }

@@ -61,7 +61,7 @@ fn is_open(answer: OpenAnswer) -> bool
     }
 }
 
-// The entry at position i of a file that `open` gave an answer; 'end' from the last entry on, and where the file was
+// The entry at position i of a file that `open` gave an answer; 'end' behind the last entry, and where the file was
 // refused.
 pub fn entry_at(file: &[u8], i: u32, answer: OpenAnswer) -> ReadAnswer
     ensures { λ r. ⌜ r ≡ readAt (entriesBy answer (now (file .entry))) i ⌝ }
