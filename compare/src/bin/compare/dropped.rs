@@ -1,10 +1,10 @@
 //! Minimal dependencies of a column whose left side is a key: they hold by the question, as the key does, and no call
 //! lists them.
 
-use crate::trial::{
-    expect, Outcome, Trial, ALL_ABOVE, ANOTHER_LEFT, INSIDE_KEY, KEY_ELSEWHERE, NO_OWN_COLUMNS, OF_EMPTY, REACHES_UP,
-    SEVERAL, UNBACKED_KEY,
+use crate::seen::{
+    ALL_ABOVE, ANOTHER_LEFT, INSIDE_KEY, KEY_ELSEWHERE, NO_OWN_COLUMNS, OF_EMPTY, REACHES_UP, SEVERAL, UNBACKED_KEY,
 };
+use crate::trial::{expect, Outcome, Trial};
 use crate::{listings, questions};
 use compare::lent::Placed;
 use compare::simple::{self, Catalogue, Entry, ROW};

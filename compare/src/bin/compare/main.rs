@@ -14,15 +14,17 @@ mod listings;
 mod packed;
 mod pairs;
 mod questions;
+mod seen;
 mod supplied;
 mod trial;
 mod withheld;
 
+use seen::Seen;
 use std::ops::Range;
 use std::process::exit;
 use std::thread::{available_parallelism, scope};
 use std::time::Instant;
-use trial::{Seen, Trial};
+use trial::Trial;
 
 /// A line is printed after so many catalogues: it tells where a crash happened.
 const PROGRESS: u64 = 2_000;

@@ -1,10 +1,11 @@
 //! A supplier's list with evidence: true ones, and ones with one damage or several. `damages` makes them.
 
 use crate::damages::{self, Files, Supply};
-use crate::trial::{
-    expect, hex, negative, same, Outcome, Trial, COLUMNS_FOR_KEY, ENTRY_AND_SET, KEY_ALONE, LIST_AND_RECORD,
-    OTHER_KEY_COVERS, OTHER_KEY_INSIDE, RECORD_AND_ENTRY, REFUSED_CATALOGUE, UNBACKED_OPEN,
+use crate::seen::{
+    COLUMNS_FOR_KEY, ENTRY_AND_SET, KEY_ALONE, LIST_AND_RECORD, OTHER_KEY_COVERS, OTHER_KEY_INSIDE, RECORD_AND_ENTRY,
+    REFUSED_CATALOGUE, UNBACKED_OPEN,
 };
+use crate::trial::{expect, hex, negative, same, Outcome, Trial};
 use compare::evidence::{Failing, Record};
 use compare::lent::Placed;
 use compare::random::{self, Layout};
@@ -209,17 +210,27 @@ pub fn every(trial: &mut Trial, layout: Layout) -> Outcome {
     let more = of_all_sets(&supply);
     accepted(trial, &supply)?;
     accepted(trial, &more)?;
+    every_record(trial, &supply, &more)?;
+    every_entry(trial, &supply, &more)?;
+    every_byte(trial, &supply.files())
+}
+
+fn every_record(trial: &mut Trial, supply: &Supply, more: &Supply) -> Outcome {
     for i in 0..supply.records.len() {
         let mut less = supply.clone();
         let record = less.records.remove(i);
         refused(trial, &less, Refusal::UncoveredSet)?;
         less.records.extend([record, record]);
         accepted(trial, &less)?;
-        lowered(trial, &supply, i)?;
+        lowered(trial, supply, i)?;
     }
     for i in 0..more.records.len() {
-        lowered(trial, &more, i)?;
+        lowered(trial, more, i)?;
     }
+    Ok(())
+}
+
+fn every_entry(trial: &mut Trial, supply: &Supply, more: &Supply) -> Outcome {
     for i in 0..supply.entries.len() {
         let mut other = supply.clone();
         let entry = other.entries.remove(i);
@@ -235,7 +246,10 @@ pub fn every(trial: &mut Trial, layout: Layout) -> Outcome {
         refused(trial, &supply.without_key(key, true), Refusal::UncoveredSet)?;
         refused(trial, &more.without_key(key, true), Refusal::UncoveredSet)?;
     }
-    let files = supply.files();
+    Ok(())
+}
+
+fn every_byte(trial: &mut Trial, files: &Files) -> Outcome {
     for list in damages::every(&files.list) {
         compare(trial, &Files { list, ..files.clone() })?;
     }

@@ -1,6 +1,7 @@
 //! Minimal dependencies and keys that no row backs: they hold by the question, and no call lists them.
 
-use crate::trial::{expect, Outcome, Trial, ABOVE, APART, HARMLESS, NOT_REACHED, NO_CELL, NO_ROWS, NO_ROWS_UNDER_ROWS};
+use crate::seen::{ABOVE, APART, HARMLESS, NOT_REACHED, NO_CELL, NO_ROWS, NO_ROWS_UNDER_ROWS};
+use crate::trial::{expect, Outcome, Trial};
 use crate::{listings, questions};
 use compare::lent::Placed;
 use compare::simple::{self, Catalogue, Entry, MISSING};
