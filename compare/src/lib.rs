@@ -3,7 +3,7 @@
 //! - `simple`: document 01 in plain loops, to be read line by line against the document
 //! - `evidence`: document 02 b in plain loops, as d and e alter it: the check of a supplier's list by evidence
 //! - `ffi`: the static library's functions
-//! - `random`: deterministic random catalogues, sound and damaged
+//! - `random`: deterministic random catalogues of several kinds, sound and damaged
 //! - `named`: small catalogues by name, with what is listed of them and what is not
 //! - `unfilled`: those with missing cells or without rows, and wide ones
 //! - `keyed`: those whose keys stand for columns, and wide ones

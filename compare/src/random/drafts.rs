@@ -10,6 +10,15 @@ pub struct DraftTable {
     pub rows: Vec<(usize, Vec<u32>)>,
 }
 
+impl DraftTable {
+    /// A table of some columns, each with a code for each of the parent rows.
+    pub(super) fn of_columns(parent: usize, parent_rows: &[usize], columns: &[Vec<u32>]) -> DraftTable {
+        let codes = |k: usize| columns.iter().map(|column| column[k]).collect();
+        let rows = parent_rows.iter().enumerate().map(|(k, parent_row)| (*parent_row, codes(k))).collect();
+        DraftTable { columns: columns.len(), parent, rows }
+    }
+}
+
 #[derive(Clone, Debug, Default)]
 pub struct Draft {
     pub tables: Vec<DraftTable>,

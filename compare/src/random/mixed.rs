@@ -1,4 +1,4 @@
-//! Catalogues of many shapes, within all bounds.
+//! Catalogues of many shapes, within all bounds: the mix that is made if no kind is named.
 
 use super::cells::{codes, gaps, leave_out, style, Gaps, Style};
 use super::trees::Tree;

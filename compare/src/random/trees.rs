@@ -1,4 +1,4 @@
-//! Which lower-numbered table is the parent of a table.
+//! Which lower-numbered table is the parent of a table, and which of its rows the parent of a row.
 
 use super::Random;
 use crate::simple::NO_PARENT;
@@ -25,4 +25,9 @@ impl Tree {
             Tree::Any => random.below(i),
         }
     }
+}
+
+/// So many rows under any rows of a parent table with rows, or of none.
+pub fn anywhere(random: &mut Random, above: Option<usize>, count: usize) -> Vec<usize> {
+    (0..count).map(|_| above.map_or(NO_PARENT, |above| random.below(above))).collect()
 }

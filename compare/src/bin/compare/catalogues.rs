@@ -5,14 +5,15 @@ use crate::trial::{negative, same, Outcome, Trial};
 use crate::{dropped, listings, packed, pairs, questions, supplied, withheld};
 use compare::ffi;
 use compare::lent::{Numbers, Placed};
-use compare::random;
+use compare::random::{self, Kind};
 use compare::simple::{self, Catalogue, Entry, Refusal};
 
 /// How many damaged files are made from each catalogue.
 const DAMAGED: usize = 8;
 
-pub fn run(trial: &mut Trial) -> Outcome {
-    let layout = random::draft(&mut trial.random).layout();
+/// All comparisons on one catalogue of a kind.
+pub fn run(trial: &mut Trial, kind: Kind) -> Outcome {
+    let layout = (kind.draft)(&mut trial.random).layout();
     let listing = sound(trial, &layout.file)?;
     for _ in 0..DAMAGED {
         let file = random::damaged(&mut trial.random, &layout);
@@ -82,7 +83,7 @@ pub fn check(trial: &mut Trial, placed: &Placed) -> Result<Result<Catalogue, Ref
         Err(refusal) => (negative(*refusal) as i32, before),
     };
     let call = || "check: reply, tables and sets".to_string();
-    same(call, (reply, numbers.values()), (expected, values))?;
+    trial.reply(call, (reply, numbers.values()), (expected, values))?;
     same(call, numbers.untouched_but_first(2), true)?;
     match &answer {
         Ok(_) => trial.seen.answer("check, sound"),

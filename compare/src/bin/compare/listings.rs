@@ -37,7 +37,7 @@ pub fn compare(
         Err(refusal) => (negative(refusal), before),
     };
     let what = || format!("list {call:?}: reply, next place and passed");
-    same(what, (reply, numbers.values()), (expected, values))?;
+    trial.reply(what, (reply, numbers.values()), (expected, values))?;
     expect(numbers.untouched_but_first(2), what, "memory beside the numbers was altered")?;
     expect(trial.run.alike(), what, "the run of records or its guards were left otherwise than stated")?;
     expect(trial.words.alike(), what, "the work words or their guards were left otherwise than stated")?;

@@ -109,7 +109,7 @@ fn pack(trial: &mut Trial, entries: &[Entry]) -> Outcome {
         Err(refusal) => negative(refusal),
     };
     let call = || format!("pack into {len} bytes {entries:?}");
-    same(call, reply, expected)?;
+    trial.reply(call, reply, expected)?;
     expect(trial.output.alike(), call, "the output or its guards were left otherwise than stated")?;
     expect(*lent == *entries, call, "the entries were altered")?;
     match answer {
@@ -158,13 +158,13 @@ fn open(trial: &mut Trial, placed: &Placed) -> Result<usize, String> {
     let call = || "open: reply and bytes in front".to_string();
     match simple::open(placed.file()) {
         Err(refusal) => {
-            same(call, reply, negative(refusal))?;
+            trial.reply(call, reply, negative(refusal))?;
             expect(numbers.untouched_but_first(0), call, "a refusal altered memory")?;
             trial.seen.refusal(refusal);
             Ok(3)
         }
         Ok(list) => {
-            same(call, (reply, numbers.values()[0]), (list.entries.len() as i64, list.front))?;
+            trial.reply(call, (reply, numbers.values()[0]), (list.entries.len() as i64, list.front))?;
             expect(numbers.untouched_but_first(1), call, "memory beside the number was altered")?;
             trial.seen.answer("open");
             Ok(list.entries.len())
@@ -195,7 +195,7 @@ fn read(trial: &mut Trial, placed: &Placed, from: usize, records: usize) -> Resu
         Err(refusal) => negative(refusal),
     };
     let call = || format!("read from {from} into {records} records");
-    same(call, reply, expected)?;
+    trial.reply(call, reply, expected)?;
     expect(trial.run.alike(), call, "the run of records or its guards were left otherwise than stated")?;
     match answer {
         Ok(0) if records == 0 => trial.seen.answer("read, no record lent"),

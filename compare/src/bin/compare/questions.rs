@@ -1,6 +1,6 @@
 //! The question and the first breaking pair.
 
-use crate::trial::{expect, negative, same, Outcome, Trial};
+use crate::trial::{expect, negative, Outcome, Trial};
 use compare::ffi;
 use compare::lent::{Numbers, Placed};
 use compare::simple::{self, Catalogue, Refusal, ROW};
@@ -99,7 +99,7 @@ fn ask(trial: &mut Trial, placed: &Placed, catalogue: Result<&Catalogue, Refusal
         Err(refusal) => negative(refusal) as i32,
     };
     let call = || format!("ask {question:?}");
-    same(call, reply, expected)?;
+    trial.reply(call, reply, expected)?;
     expect(trial.words.alike(), call, "the work words or their guards were left otherwise than stated")?;
     match answer {
         Ok(true) => trial.seen.answer("ask, holds"),
@@ -123,7 +123,7 @@ fn pair(trial: &mut Trial, placed: &Placed, catalogue: Result<&Catalogue, Refusa
         Err(refusal) => (negative(refusal) as i32, before, 0),
     };
     let call = || format!("pair {question:?}: reply, first and second row");
-    same(call, (reply, numbers.values()), (expected, values))?;
+    trial.reply(call, (reply, numbers.values()), (expected, values))?;
     expect(trial.words.alike(), call, "the work words or their guards were left otherwise than stated")?;
     expect(numbers.untouched_but_first(written), call, "numbers beside the two rows were altered")?;
     match answer {

@@ -12,6 +12,8 @@ const LAST: usize = Refusal::UncoveredSet as usize;
 /// many turned on a listed key alone.
 #[derive(Default)]
 pub struct Seen {
+    /// The replies of the library that were compared.
+    pub comparisons: u64,
     refusals: [u64; LAST + 1],
     answers: BTreeMap<&'static str, u64>,
     kinds: BTreeMap<&'static str, u64>,
@@ -155,6 +157,7 @@ impl Seen {
 
     /// What occurred elsewhere as well.
     pub fn add(&mut self, other: &Seen) {
+        self.comparisons += other.comparisons;
         self.refusals.iter_mut().zip(other.refusals).for_each(|(count, more)| *count += more);
         other.answers.iter().for_each(|(name, more)| *self.answers.entry(name).or_default() += more);
         other.kinds.iter().for_each(|(name, more)| *self.kinds.entry(name).or_default() += more);

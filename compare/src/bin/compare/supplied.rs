@@ -124,7 +124,7 @@ fn answered(trial: &mut Trial, files: &Files) -> Result<Result<u64, Refusal>, St
         Err(refusal) => negative(refusal),
     };
     let call = || format!("verify, list {}, evidence {}", hex(&files.list), hex(&files.evidence));
-    same(call, reply, expected)?;
+    trial.reply(call, reply, expected)?;
     expect([cat, list, records] == lent.map(Vec::as_slice), call, "a file was altered")?;
     match answer {
         Ok(_) => {

@@ -39,6 +39,12 @@ impl Trial {
         self.random = Random::new(seed);
     }
 
+    /// Compares a reply of the library, described by a call, with the reply by the document, and counts it.
+    pub fn reply<T: PartialEq + Debug>(&mut self, call: impl FnOnce() -> String, library: T, document: T) -> Outcome {
+        self.seen.comparisons += 1;
+        same(call, library, document)
+    }
+
     /// A number of work words: mostly enough, few or many, and sometimes too few.
     pub fn any_words(&mut self) -> usize {
         match self.random.below(16) {
@@ -58,7 +64,7 @@ impl Trial {
     }
 }
 
-/// Compares a reply, described by a call, with the reply by the document.
+/// Compares what the library did, described by a call, with what it does by the document.
 pub fn same<T: PartialEq + Debug>(call: impl FnOnce() -> String, library: T, document: T) -> Outcome {
     if library == document {
         Ok(())
