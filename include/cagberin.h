@@ -2,7 +2,7 @@
  * cagberin.h - what determines what in a media catalogue.
  *
  * A media catalogue is a file of tables in a tree. The calls check one, say whether a dependency holds in it, give the
- * first pair of rows that breaks one, list in steps all minimal dependencies and keys that some row backs, save those
+ * first pair of rows that breaks one, list in steps all minimal dependencies and keys that some row backs, except those
  * of a column whose left side is a key, pack and read such lists, and check by evidence that a list is the full one.
  * examples/c/example.c makes each call.
  *
@@ -14,19 +14,20 @@
  *
  * Refusals alter no lent memory, with one exception: after CAGBERIN_TRAY_FULL every work word is 0.
  *
- * Lent memory. All memory is the caller's, lent for the time of a call; the library allocates nothing and keeps
- * nothing between calls. A pointer to several elements is followed by their number, a size_t, and must be valid for
- * that many; it must not be NULL, also where the number is 0. A pointer to a single number must be valid for that
- * number. What is behind a pointer to const is only read. What is behind any other pointer may be written, needs no
- * initialising, and must overlap nothing else that is lent to the same call. Bytes need no alignment; words, numbers
- * and entry records have that of their C types.
+ * Lent memory. All memory is the caller's, lent for the time of a call; the library allocates nothing and keeps nothing
+ * between calls. A pointer to several elements is followed by their number, a size_t, and must be valid for that many;
+ * it must not be NULL, also where the number is 0: any other address of that alignment will do there. A pointer to a
+ * single number must be valid for that number. What is behind a pointer to const is only read. What is behind any other
+ * pointer may be written, needs no initialising, and must overlap nothing else that is lent to the same call. Bytes
+ * need no alignment; words, numbers and entry records have that of their C types.
  *
  * Threads. Several threads may share one catalogue or packed list, since calls only read it, as long as nobody alters
  * it meanwhile. What a call may write must be each thread's own.
  *
  * Stack. cagberin_verify needs up to 400 KB (409,600 bytes) of stack, cagberin_list up to 300 KB (307,200 bytes),
  * cagberin_ask and cagberin_pair up to 240 KB (245,760 bytes), each other call up to 16 KB (16,384 bytes). That is the
- * call's own need: a thread wants some more for what else it does. docs/PERFORMANCE.md says what was measured.
+ * call's own need, measured and not proved: a thread wants some more for what else it does (with POSIX threads at least
+ * PTHREAD_STACK_MIN). docs/PERFORMANCE.md says what was measured.
  */
 #ifndef CAGBERIN_H
 #define CAGBERIN_H
@@ -70,7 +71,8 @@ extern "C" {
 
 /*
  * The numbers that calls return. The document's number is the same without the sign; its word, where it has one, and
- * its condition stand beside each.
+ * its condition stand beside each. (The document is the one that sets the format and the numbers; a host needs only
+ * this page.)
  *
  * Where there are several grounds, the first in this order is returned: -1 and -2; then table by table its offset and
  * 6 bytes (-3), -4, -5, -6, its rows' extent (-3), each row (-7); after the last table, left bytes (-3); then -8 to
@@ -85,7 +87,8 @@ enum cagberin_refusal {
                                       its 6 bytes or its rows pass the trailer's first byte, or bytes are left after
                                       the last table */
     CAGBERIN_OVERSIZE = -4,        /* oversize: columns over 16 or rows over 4,096 */
-    CAGBERIN_NO_STEM = -5,         /* no stem: wrong parent table */
+    CAGBERIN_NO_STEM = -5,         /* no stem: the root's parent table isn't 65,535, or another's isn't a
+                                      lower-numbered table */
     CAGBERIN_TOO_WIDE = -6,        /* too wide: over 16 visible columns */
     CAGBERIN_STRAY_ROW = -7,       /* stray row: a root row's parent isn't 65,535, or another's isn't below the
                                       parent table's rows */
@@ -100,7 +103,7 @@ enum cagberin_refusal {
     CAGBERIN_BAD_ENTRY = -15,      /* bad entry: target over 15, right neither below 16 nor 255, right in left, or
                                       not later in listing order than the one before */
     CAGBERIN_SHORT_SHEET = -16,    /* short sheet: output under 4k + 8 bytes */
-    CAGBERIN_FALSE_RECORD = -17,   /* an evidence record is not true, or the last one is broken */
+    CAGBERIN_FALSE_RECORD = -17,   /* an evidence record is not true, or fewer than 8 bytes are left behind the last */
     CAGBERIN_UNSOUND_ENTRY = -18,  /* an entry has an unknown table, column or right (as in -8 to -10), isn't backed,
                                       fails, contains another left that is listed for its target and right, or has a
                                       column on the right and a left that is or contains a listed key of its target */
@@ -231,8 +234,9 @@ int64_t cagberin_pack(const struct cagberin_entry *entries, size_t k, uint8_t *o
 int64_t cagberin_open(const uint8_t *file, size_t len, size_t *front);
 
 /*
- * Reads entries of the packed list that ends a file into a run, from an index on, as many as it has records. The
- * first entry has index 0.
+ * Reads entries of the packed list that ends a file into a run, from an index on: as many as the run has records, or as
+ * are left. The first entry has index 0. Entries in a file may stand at odd addresses, so they are read by this call
+ * and not through a struct cagberin_entry that points into the file.
  *
  * Returns how many were read: 0 if from is at or past the number of entries, or if the run has no records. They stand
  * at the start of the run; the other records are unaltered.

@@ -8,7 +8,7 @@ use crate::simple::{MISSING, NO_PARENT};
 
 /// The most visible columns and rows.
 const VISIBLE: usize = 5;
-const ROWS: usize = 20;
+const ROWS: usize = 28;
 
 pub fn draft(random: &mut Random) -> Draft {
     let (tree, tables) = (Tree::any(random), random.from_to(1, 3));

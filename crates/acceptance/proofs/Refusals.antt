@@ -1,7 +1,6 @@
 -- The numbers that the check by evidence refuses by, and those that it does not.
 use Prim.Native.Nat.{ℕ, _≤_}
-use mathlib.Core.Path.{_≡_}
-use mathlib.Core.Logic.{_⊎_, inl, inr}
+use mathlib.Core.Logic.{inl, inr}
 use native.Mathlib.Omega.{arith}
 use Rattle.acceptance.specs.Grounds.{VerifyRefusal, VerifyRefusals}
 
