@@ -1,6 +1,6 @@
 // Not for callers: powers of two for the crates that set and test bits of a word, each of which shows that its bit is
 // in the word.
-// Relies on nothing. Called by `columns`, by `layout`, and by the crates of the engine.
+// Relies on nothing. Called by `columns`, `layout`, the crates of the engine, and those above it that tell bits.
 ghost use Prim.Native.Nat.{_<_, _^_};
 ghost use mathlib.Core.Path.{_≡_};
 

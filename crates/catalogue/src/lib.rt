@@ -1,6 +1,7 @@
 // The check of a catalogue: the public call that says whether bytes are one.
-// Relies on `grounds`, where each ground of the refusals 1 to 7 has a function, and on `refusals` for the refusal that
-// has a number. Called by hosts and programs; the other public calls check first by themselves.
+// Relies on `grounds`, where each ground of the refusals 1 to 7 has a function, on `layout` for how many tables and
+// sets there are, and on `refusals` for the refusal that has a number. Called by hosts and programs; the other public
+// calls check first by themselves.
 ghost use mathlib.Core.Path.{_≡_};
 ghost use Rattle.model.specs.Reply.{checkReply};
 ghost use Rattle.model.specs.Check.{checkMeaning};

@@ -1,7 +1,7 @@
 // Not for callers: numbers in a file, unsigned and little-endian, read and written at any position; a byte past the end
 // reads as 0.
-// Relies on the definitions of `model`. Called by `layout`, `entries`, `packing` and `unpacking`; the laws on numbers
-// as bytes stand in proofs/.
+// Relies on the definitions of `model`. Called by `layout`, `grounds`, `entries`, `packing`, `unpacking`, `evidence`
+// and `marks`; the laws on numbers as bytes stand in proofs/.
 ghost use Prim.Native.Nat.{_+_, _%_, _≤_};
 ghost use mathlib.Core.Path.{_≡_};
 ghost use lib.ListN.{length};

@@ -1,7 +1,7 @@
 // Not for callers: the grounds against a file: refusals 1 to 7, one function for each, tried in the stated order. A
 // ground's code is the refusal's number, or 0 where there is none.
-// Relies on `layout` for what stands where, on `refusals` for the numbers and on the definitions of `model`. Called by
-// `catalogue`, `question`, `steps`, `verify` and `pages`.
+// Relies on `layout` and `file` for what stands where, on `refusals` for the numbers and on the definitions of `model`.
+// Called by `catalogue`, `question`, `steps`, `verify` and `pages`.
 ghost use mathlib.Core.Path.{_≡_};
 ghost use Rattle.columns.specs.Test.{ifEq, ifLt};
 ghost use Rattle.model.specs.Bounds.{noParent};

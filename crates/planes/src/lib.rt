@@ -2,7 +2,7 @@
 // the agree sets, and a plane says for one right which left sides do not give it, or of sets that are marked which left
 // sides lie inside one.
 // Relies on the definitions of `model` and `columns`, and on `table` for the closing. Called by `blocks`, `marks`,
-// `presence`, `rights` and `soundness`; `scan` makes the seeds.
+// `presence`, `rights`, `soundness` and `coverage`; `scan` makes the seeds.
 ghost use Prim.Native.Nat.{_-_, _/_, _^_, _≤_, _<_};
 ghost use mathlib.Core.Path.{_≡_};
 ghost use mathlib.Core.Bool.{true};

@@ -5,7 +5,7 @@
 // Relies on `keys` for the keys of a target, on `presence` for what is backed, on `scan`, `table`, `planes` and
 // `blocks` for what the words hold, on `partition` for one left side alone, on `layout` for how many rows and columns
 // there are and on `passing` for the type that tells what the words hold. No cell is looked at but in `keys` and
-// `presence`. Called by `walk` and `steps`.
+// `presence`. Called by `walk`; `steps` cites its laws.
 ghost use mathlib.Core.Path.{_≡_};
 ghost use Prim.Native.Nat.{ℕ, suc, _+_, _-_, _^_, _≤_, _<_};
 ghost use lib.ListN.{length};

@@ -1,8 +1,8 @@
 // Not for callers: the steps of a listing call, from entry to entry: `begin` and `step` decide everything, keep the
 // work words and look at no record.
-// Relies on `walk` for going from set to set, on `passing` for the walk's type, on `rights` for the numbers of
-// rights, on `grounds` for the check's grounds, on `layout` for the number of sets and on `refusals` for the refusal
-// that has a number and for the work words. Called by `listing`.
+// Relies on `walk` for going from set to set, on `passing` for the walk's type, on `table` for the right that a bit
+// stands for, on `grounds` for the check's grounds, on `layout` for the number of sets and on `refusals` for the
+// refusal that has a number and for the work words. Called by `listing`.
 mod put;
 
 ghost use Rattle.model.specs.Check.{checkCode, Accepted};

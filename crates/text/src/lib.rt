@@ -1,6 +1,6 @@
 // Not for callers: what the programs print: words, decimal numbers and entries, put into lent bytes at a position and
 // written to standard output in one go. Each answers the position behind what it put; what does not fit is left out.
-// Relies on the types of `model` and on `io` for digits. Called by the programs.
+// Relies on the types of `model` and on `io` for digits. Called by the programs, and by `page_lines` and `pages`.
 ghost use mathlib.Core.Path.{_≡_};
 ghost use mathlib.Core.List.{[], _∷_};
 ghost use lib.ListN.{length};
