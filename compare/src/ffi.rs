@@ -1,6 +1,6 @@
 //! The functions of the static library: the C declarations, and the same calls on slices.
 //!
-//! Every signature stands here and in `include/cagberin.h`, nowhere else. A refusal comes back as its number
+//! Every signature stands here and in `include/cagberin.h`, as `crates/host` exports it. A refusal comes back as its number
 //! made negative.
 
 use crate::simple::Entry;

@@ -74,7 +74,7 @@ pub fn open(file: &[u8]) -> Result<List, Refusal> {
 }
 
 /// Reads entries from an index on into a run, as many as fit, after 14 and 15 over the whole list. Returns how many:
-/// none from the last entry on.
+/// none behind the last entry.
 pub fn read(file: &[u8], from: usize, run: &mut [Entry]) -> Result<usize, Refusal> {
     let list = open(file)?;
     let mut count = 0;

@@ -62,12 +62,13 @@ unfolding ones onesIn ifEq ifLt ifLe withoutOf inOrder bySizeFrom ofSize ofSizeF
     shortHead shortRow leftByte manyColumns rowsOnly manyRows rootedRoot ownParent tooWide rootedRow unknownParentRow
     smallest mostColumns mostRows widest lateAndLarge largeAndRooted ownParentAndWide wideAndLong longAndRooted
     rowThenTable rowThenByte rowThenGap inLine forked below offsetsBy12 deepest memberOf targetCode leftSideCode
-    rightSideCode sidesCode wordsCode questionCode askMeaning pairMeaning passed written placeCode roomCode callCode runAfter
-    workAfter firstCode earlier tailCode bytesOf entryAt countIn distanceIn entriesBytes packed entriesFrom entriesHeld
-    frontOf entryCode laterCode restCode entriesCode outputCode packCode packMeaning outputAfter readCode openMeaning
-    entriesRead frontRead readFrom readMeaning runRead readAt emptyList lostEntry recordBytes recordAt recordsBytes
-    recordsFrom recordCount recordsHeld unbroken isTrueRecord allIn someIn isFor containsListed isSoundEntry isCovered
-    areTrueRecords areSoundEntries areCoveredSets recordsCode soundCode coverCode evidenceCode verifyCode verifyMeaning
-    withinOf albumList albumRecords albumEvidence keyEvidence bothEvidence lostList keysEvidence twinsEvidence
-    answerText listingText headLine refusedLine linesOf entryLine entryText rightText decimal decimalIn
+    rightSideCode sidesCode wordsCode questionCode askMeaning pairMeaning passed written placeCode roomCode callCode
+    runAfter workAfter firstCode earlier tailCode bytesOf entryAt countIn distanceIn entriesBytes packed entriesFrom
+    entriesHeld frontOf entryCode laterCode restCode entriesCode outputCode packCode packMeaning outputAfter readCode
+    openMeaning entriesRead frontRead readFrom readMeaning runRead readAt emptyList lostEntry recordBytes recordAt
+    recordsBytes recordsFrom recordCount recordsHeld unbroken isTrueRecord allIn someIn isFor containsListed
+    isSoundEntry isCovered areTrueRecords areSoundEntries areCoveredSets recordsCode soundCode coverCode evidenceCode
+    verifyCode verifyMeaning withinOf albumList albumRecords albumEvidence keyEvidence bothEvidence lostList
+    keysEvidence twinsEvidence answerText listingText headLine refusedLine linesOf entryLine entryText rightText decimal
+    decimalIn
 computes = tt

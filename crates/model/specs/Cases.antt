@@ -1,6 +1,6 @@
 -- The proved cases, as one table: K1 to K11 of document 01, what it says of the album, the first of several breaking
--- pairs, what rows back and what keys stand for (document 02, a, d and e), and the tables of the other files by subject. Left sides are numbers: {0} is 1, {1} is 2,
--- {1, 2} is 6.
+-- pairs, what rows back and what keys stand for (document 02, a, d and e), and the tables of the other files by
+-- subject. Left sides are numbers: {0} is 1, {1} is 2, {1, 2} is 6.
 use Prim.Native.Nat.{ℕ, _≤_}
 use mathlib.Core.Path.{_≡_}
 use mathlib.Core.List.{[], _∷_, List·Memᴰ}

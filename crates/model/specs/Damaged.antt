@@ -1,5 +1,5 @@
--- Damaged catalogues, one for each ground of the refusals 1 to 7, and all grounds in each: wherever a small file
--- has it so, the one that it is refused for is the only one. Then files at the bounds, which are accepted, and files with
+-- Damaged catalogues, one for each ground of the refusals 1 to 7, and all grounds in each: wherever a small file has it
+-- so, the one that it is refused for is the only one. Then files at the bounds, which are accepted, and files with
 -- several faults, for the order of refusals.
 use Prim.Native.Nat.{ℕ, zero, suc, _+_, _*_}
 use mathlib.Core.Path.{_≡_}

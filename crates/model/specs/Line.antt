@@ -87,8 +87,8 @@ pub record Line : Type 0 where
   pub present0 : map (presentAt inLine 3 0) (0 ∷ 1 ∷ 2 ∷ 3 ∷ []) ≡ false ∷ false ∷ false ∷ false ∷ []
   pub present1 : map (presentAt inLine 3 1) (0 ∷ 1 ∷ 2 ∷ 3 ∷ []) ≡ true ∷ true ∷ true ∷ true ∷ []
   pub present2 : map (presentAt inLine 3 2) (0 ∷ 1 ∷ 2 ∷ 3 ∷ []) ≡ true ∷ false ∷ true ∷ false ∷ []
-  -- no row below the root reaches the root row whose cell is present: {0} is backed by no row there, and by one of the root;
-  -- {1, 2} gives 3 in table 3 and is no key, {2, 4} gives it too and is one
+  -- no row below the root reaches the root row whose cell is present: {0} is backed by no row there, and by one of the
+  -- root; {1, 2} gives 3 in table 3 and is no key, {2, 4} gives it too and is one
   pub listing : flat (cells (ordinary inLine))
       ≡ entry 0 1 row
       ∷ entry 2 6 row

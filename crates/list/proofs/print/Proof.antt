@@ -78,11 +78,12 @@ add-sum : tie.Need-add-sum Inv-loop μ-loop
 add-sum c =
     let page = c .before .before .before .before .before .before .before .before .before .next-page .ensures .0 in
     let counts = paged-counts _ _ _ _ _ page (c .before .before .before .write2 .ensures) in
-    let loop = c .before .before .before .before .before .before .before .before .before .before .before .before .before .before .loop in
+    let turn = c .before .before .before .before .before .before .before .before .before in
+    let loop = turn .before .before .before .before .before .loop in
     omega (
       arith,
       answer-small _ (loop .inv .3
-          (c .before .before .before .before .before .before .before .before .before .before .before .before .if2 .taken) .accepted),
+          (turn .before .before .before .if2 .taken) .accepted),
     )
 
 loop-less : tie.Need-loop-less Inv-loop μ-loop
@@ -105,9 +106,11 @@ same-length-6 c = search needs
 returns-3 : tie.Need-returns-3 Inv-loop μ-loop
 returns-3 c e =
     let page = c .before .before .loop .page in
+    let half = c .before .before .before .before .before .before .before .before .before in
+    let start = half .before .before .before .before .before .before .before .before in
     omega (
       arith,
-      ap length (rest-none (c .before .before .before .before .before .before .before .before .before .before .before .before .before .before .before .before .before .args .file .now) (page .place) (page .last) (c .if2 .left)),
+      ap length (rest-none (start .args .file .now) (page .place) (page .last) (c .if2 .left)),
     )
 
 pub print-spec : {M : Type 1} → statement M

@@ -82,7 +82,7 @@ const TEARS: [Tear; 8] = [
 /// One damage. After some the list is accepted still.
 pub fn one(random: &mut Random, supply: &Supply, other: &Supply) -> Files {
     if random.once_in(4) {
-        torn(random, supply)
+        altered(random, supply)
     } else {
         damaged(random, supply, other, 1).files()
     }
@@ -93,7 +93,7 @@ pub fn several(random: &mut Random, supply: &Supply, other: &Supply) -> Files {
     if random.once_in(2) {
         let count = random.from_to(1, 3);
         let supply = damaged(random, supply, other, count);
-        torn(random, &supply)
+        altered(random, &supply)
     } else {
         let count = random.from_to(2, 4);
         damaged(random, supply, other, count).files()
@@ -108,7 +108,7 @@ fn damaged(random: &mut Random, supply: &Supply, other: &Supply, count: usize) -
     supply
 }
 
-fn torn(random: &mut Random, supply: &Supply) -> Files {
+fn altered(random: &mut Random, supply: &Supply) -> Files {
     let mut files = supply.files();
     random.pick(&TEARS)(random, &mut files, supply);
     files
