@@ -3,8 +3,8 @@
  *
  * A media catalogue is a file of tables in a tree. The calls check one, say whether a dependency holds in it, give the
  * first pair of rows that breaks one, list in steps all minimal dependencies and keys that some row backs, except those
- * of a column whose left side is a key, pack and read such lists, and check by evidence that a list is the full one.
- * examples/c/example.c makes each call.
+ * of a column whose left side is a key, pack and read such lists, check by evidence that a list is the full one, and
+ * convert a supplier's text into a catalogue. The programs in examples/c make each call.
  *
  * Link with libhost.a, an archive for x86-64 Linux. Of the outside it needs memcpy and memset, nothing else.
  *
@@ -76,8 +76,9 @@ extern "C" {
  *
  * Where there are several grounds, the first in this order is returned: -1 and -2; then table by table its offset and
  * 6 bytes (-3), -4, -5, -6, its rows' extent (-3), each row (-7); after the last table, left bytes (-3); then -8 to
- * -19 as they stand here. A list is checked for -14 first, then entry by entry for -15; a list with evidence for -17
- * over all records, then for -18 over all entries, then for -19.
+ * -22 as they stand here. A list is checked for -14 first, then entry by entry for -15; a list with evidence for -17
+ * over all records, then for -18 over all entries, then for -19; a text for -20 over the whole text, then for -21 over
+ * the whole text, then for -22.
  */
 enum cagberin_refusal {
     CAGBERIN_TORN = -1,            /* torn: file under 16 bytes */
@@ -107,9 +108,16 @@ enum cagberin_refusal {
     CAGBERIN_UNSOUND_ENTRY = -18,  /* an entry has an unknown table, column or right (as in -8 to -10), isn't backed,
                                       fails, contains another left that is listed for its target and right, or has a
                                       column on the right and a left that is or contains a listed key of its target */
-    CAGBERIN_UNCOVERED_SET = -19   /* for some target and right of it, a backed set without that right contains neither
+    CAGBERIN_UNCOVERED_SET = -19,  /* for some target and right of it, a backed set without that right contains neither
                                       a left listed for the two nor a listed key of the target, and doesn't lie inside
                                       the set of a record for the two */
+    CAGBERIN_BAD_TEXT = -20,       /* the text isn't of the form, which takes in other names, wrong numerals, a value
+                                      of 4,294,967,295 or more, an attribute twice in a tag, and more than 16 rows in
+                                      each other */
+    CAGBERIN_UNFIT_TEXT = -21,     /* a table or column number that the shape doesn't have, a row of a table other than
+                                      the root that doesn't stand in a row of its parent table, a row of the root that
+                                      doesn't stand in `catalogue`, or a shape with rows */
+    CAGBERIN_NO_ROOM = -22         /* a table of the text has over 4,096 rows, or the output is too short */
 };
 
 /* ---- Dependencies and entries ---- */
@@ -269,6 +277,33 @@ int64_t cagberin_read(const uint8_t *file, size_t len, size_t from, struct cagbe
  */
 int64_t cagberin_verify(const uint8_t *cat, size_t cat_len, const uint8_t *list, size_t list_len,
                         const uint8_t *evidence, size_t evidence_len);
+
+/*
+ * Converts a supplier's text into a catalogue, by a shape: a catalogue whose tables have no rows.
+ *
+ * The text is one XML element `catalogue` without attributes. An element `t` followed by a table number, as `t0`, is a
+ * row of that table; its attributes `c0`, `c1` and on are its own columns, numbered within the table, with values
+ * below 4,294,967,295, in any order, none twice. Numbers are decimal digits without leading zeros, of any length. Rows
+ * of table 0 stand in `catalogue`, each other row in a row of its table's parent, at most 16 in each other. An element
+ * without rows is closed by `/>` or by its end tag; values stand in either quotes. White space is space, tab, line
+ * feed and carriage return; it is allowed before and after `catalogue`, between elements, inside tags behind the name,
+ * around `=`, before `>` and `/>`, and is required before each attribute. Nothing else may stand there: no other text,
+ * comment, entity, character data, prolog, declaration, byte order mark or namespace.
+ *
+ * In the catalogue rows are numbered in text order within their table, a row's parent row is the row that it stands in,
+ * and a column without an attribute is a missing cell. Its tables, their columns and parents are the shape's.
+ *
+ * Returns the number of bytes written from the start of out, all of them a catalogue that cagberin_check accepts; the
+ * other bytes are unaltered. A catalogue has 6 bytes and 2 + 4c for each row of each table of c columns, and 4t + 6
+ * more for t tables, so 4,325,542 bytes of output are always enough.
+ * Refusals: -1 to -7 for the shape, then -20, -21, -22; out is unaltered.
+ *
+ * The time is linear in the text for each table of the shape: the whole text is read twice for its form and its fit,
+ * once to count rows, and once for each table. Only a text that is refused can take longer: one with many attributes
+ * numbered 16 and up in one tag takes the square of how many these are.
+ */
+int64_t cagberin_convert(const uint8_t *shape, size_t shape_len, const uint8_t *text, size_t text_len, uint8_t *out,
+                         size_t out_len);
 
 #ifdef __cplusplus
 }

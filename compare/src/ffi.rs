@@ -53,6 +53,14 @@ mod raw {
             evidence: *const u8,
             evidence_len: usize,
         ) -> i64;
+        pub fn cagberin_convert(
+            shape: *const u8,
+            shape_len: usize,
+            text: *const u8,
+            text_len: usize,
+            out: *mut u8,
+            out_len: usize,
+        ) -> i64;
     }
 }
 
@@ -119,5 +127,13 @@ pub fn verify(cat: &[u8], list: &[u8], evidence: &[u8]) -> i64 {
     unsafe {
         let (records, len) = (evidence.as_ptr(), evidence.len());
         raw::cagberin_verify(cat.as_ptr(), cat.len(), list.as_ptr(), list.len(), records, len)
+    }
+}
+
+/// The number of bytes of the catalogue file written, or a refusal.
+pub fn convert(shape: &[u8], text: &[u8], out: &mut [u8]) -> i64 {
+    unsafe {
+        let (bytes, len) = (out.as_mut_ptr(), out.len());
+        raw::cagberin_convert(shape.as_ptr(), shape.len(), text.as_ptr(), text.len(), bytes, len)
     }
 }

@@ -1,7 +1,8 @@
 //! What the C header says besides each call's reply: the stack that a call needs, and that threads may share a
-//! catalogue and a packed list.
+//! catalogue, a packed list and a text.
 
 use compare::evidence::{self, Failing};
+use compare::random::xml::{Element, Printed, Style};
 use compare::random::{Draft, DraftTable, Random};
 use compare::simple::{self, Entry, COLUMNS, NO_PARENT, ROW, TABLES, WORK_WORDS};
 use compare::{ffi, stack, table};
@@ -16,6 +17,10 @@ const OTHER_STACK: usize = 16_384;
 
 /// A line of 16 tables, each with one column, and enough rows below that a listing takes all its ways.
 fn line() -> Vec<u8> {
+    line_of_tables().file()
+}
+
+fn line_of_tables() -> Draft {
     let mut random = Random::new(6);
     let mut draft = Draft::default();
     for i in 0..TABLES {
@@ -27,7 +32,7 @@ fn line() -> Vec<u8> {
         let rows = (0..8 + 12 * i).map(|_| row()).collect();
         draft.tables.push(DraftTable { columns: 1, parent: if i == 0 { NO_PARENT } else { i - 1 }, rows });
     }
-    draft.file()
+    draft
 }
 
 /// One table of 16 columns.
@@ -132,6 +137,28 @@ fn other_calls_on_shared_files_in_threads_with_the_stated_stack() {
         for _ in 0..4 {
             Builder::new().stack_size(QUESTION_STACK).spawn_scoped(threads, questions).unwrap();
             Builder::new().stack_size(OTHER_STACK).spawn_scoped(threads, calls).unwrap();
+        }
+    });
+}
+
+/// Rows 16 deep; two threads convert the same text at once, a third one what is cut of it at its deepest.
+#[test]
+fn conversions_of_a_shared_text_in_threads_with_the_stated_stack() {
+    let random = &mut Random::new(8);
+    let draft = line_of_tables();
+    let (bare, catalogue) = (draft.without_rows(), Element::of(random, &draft));
+    let (shape, file) = (bare.file(), catalogue.draft(&bare).file());
+    let text = Printed::of(random, &Style::lines(), &catalogue).text;
+    let deepest = text.windows(4).position(|window| window == b"<t15").unwrap();
+    scope(|threads| {
+        for (len, reply) in [(text.len(), file.len() as i64), (text.len(), file.len() as i64), (deepest, -20)] {
+            let (shape, text, file) = (&shape, &text[..len], &file);
+            let call = move || {
+                let mut output = vec![7; file.len()];
+                assert_eq!(ffi::convert(shape, text, &mut output), reply);
+                assert!(reply < 0 || output == *file);
+            };
+            Builder::new().stack_size(OTHER_STACK).spawn_scoped(threads, call).unwrap();
         }
     });
 }

@@ -57,6 +57,12 @@ impl Draft {
         self.layout().file
     }
 
+    /// The same tables without their rows.
+    pub fn without_rows(&self) -> Draft {
+        let table = |table: &DraftTable| DraftTable { rows: Vec::new(), ..*table };
+        Draft { tables: self.tables.iter().map(table).collect() }
+    }
+
     /// The visible columns of a table; none of the root's parent.
     pub(super) fn visible(&self, table: usize) -> usize {
         self.above(table).iter().map(|table| self.tables[*table].columns).sum()

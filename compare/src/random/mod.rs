@@ -8,6 +8,7 @@
 //! - `bounds`: drafts at a bound, and one past it
 //! - `damage`: files with damages
 //! - `entries`: entries for packed lists
+//! - `xml`: supplier's texts of a draft's rows
 
 mod bounds;
 mod cells;
@@ -23,6 +24,7 @@ mod numbers;
 mod skewed;
 mod trees;
 mod wide;
+pub mod xml;
 
 pub use bounds::draft_at_bound;
 pub use damage::damaged;

@@ -1,4 +1,4 @@
-//! Document 01 in plain loops, with the requests of document 02 that have landed (a, d, e; b is in `evidence`).
+//! Document 01 in plain loops, with the requests of document 02 that have landed (a, d, e, f; b is in `evidence`).
 //!
 //! Nothing here is fast. Each function renders one sentence or one table row of the documents, in their order:
 //!
@@ -8,20 +8,26 @@
 //! - `listing`: entries in their order, the full listing, one listing call
 //! - `packed`: packed lists
 //! - `text`: what the listing program prints
+//! - `xml`: the supplier's XML text, read
+//! - `convert`: the conversion of such a text into a catalogue file
 
 mod agreement;
 mod catalogue;
+mod convert;
 mod listing;
 mod packed;
 mod questions;
 mod text;
+mod xml;
 
 pub use agreement::*;
 pub use catalogue::*;
+pub use convert::*;
 pub use listing::*;
 pub use packed::*;
 pub use questions::*;
 pub use text::*;
+pub use xml::*;
 
 // ---- Bounds ("The catalogue file", "Order and places") ----
 
@@ -38,7 +44,7 @@ pub const NO_PARENT: usize = 65_535;
 /// The right side that stands for the row itself.
 pub const ROW: u32 = 255;
 
-// ---- Refusals ("Feeder desk codes"; 17 to 19 by document 02 b) ----
+// ---- Refusals ("Feeder desk codes"; 17 to 19 by document 02 b, 20 to 22 by f) ----
 
 #[derive(Clone, Copy, PartialEq, Eq, Debug)]
 pub enum Refusal {
@@ -61,4 +67,7 @@ pub enum Refusal {
     FalseRecord = 17,
     UnsoundEntry = 18,
     UncoveredSet = 19,
+    NotOfForm = 20,
+    Misfit = 21,
+    Overfull = 22,
 }

@@ -21,6 +21,7 @@ use layout::table_end;
 use layout::tables;
 use layout::trailer;
 use layout::visible;
+use model::NO_PARENT;
 use model::ROW_BOUND;
 use model::TABLE_BOUND;
 use refusals::BAD_EXTENT;
@@ -33,9 +34,6 @@ use refusals::TOO_MANY_VISIBLE;
 
 // The bytes of the smallest file: `smallestFile` of the definitions.
 const SMALLEST_FILE: usize = 16;
-
-// The number that stands for 'none' above the root: `noParent` of the definitions.
-const NO_PARENT: u16 = 65535;
 
 // 1: the file is shorter than the smallest one.
 fn size_code(cat: &[u8]) -> u32

@@ -12,10 +12,12 @@ ghost use Rattle.model.specs.List.{ListMeaning};
 ghost use Rattle.model.specs.Packing.{packMeaning, outputAfter};
 ghost use Rattle.model.specs.Reading.{openMeaning, readMeaning, runRead};
 ghost use Rattle.model.specs.Verify.{verifyMeaning};
+ghost use Rattle.model.specs.Convert.{convertMeaning, convertedOutput};
 ghost use Rattle.model.specs.Calls.{seen};
 ghost use Rattle.numbers.specs.Number.{numberOf, valueOr, statusOf, foundOf, listSeen};
 use model::AskAnswer;
 use model::CheckAnswer;
+use model::ConvertAnswer;
 use model::Entry;
 use model::OpenAnswer;
 use model::PairAnswer;
@@ -176,5 +178,21 @@ pub extern "C" fn cagberin_verify(cat: &[u8], list: &[u8], evidence: &[u8]) -> i
             records: _,
         } => k as i64,
         VerifyAnswer::Refused(r) => numbers::wide_negative(r),
+    }
+}
+
+// Converts a supplier's text into a catalogue, by a shape: the number of bytes written from the start of the output. A
+// refusal writes nothing.
+#[no_mangle]
+pub extern "C" fn cagberin_convert(shape: &[u8], text: &[u8], out: &mut [u8]) -> i64
+    ensures { λ r.
+        ⌜ r
+        ≡ numberOf 0 (convertMeaning (now (shape .entry)) (now (text .entry)) (length (now (out .entry)))) ⌝ }
+    ensures { λ _.
+        ⌜ now (out .exit) ≡ convertedOutput (now (shape .entry)) (now (text .entry)) (now (out .entry)) ⌝ }
+{
+    match convert::convert(shape, text, out) {
+        ConvertAnswer::Converted { bytes: n } => n as i64,
+        ConvertAnswer::Refused(r) => numbers::wide_negative(r),
     }
 }

@@ -35,6 +35,7 @@ use Rattle.model.proofs.Computes.{computes}
 use Rattle.model.proofs.Damaged.{damages, at-the-bounds, damage-order}
 use Rattle.model.proofs.RefusedCalls.{one-ground, refused-questions, refused-listings, refused-lists}
 use Rattle.model.proofs.Supplied.{supplied}
+use Rattle.model.proofs.Texts.{conversions, fine-points}
 use Rattle.model.proofs.Line.{line, fork, depth}
 use Rattle.model.proofs.Replies.{question-replies, call-parts, list-replies, packed-replies, text-replies}
 use Rattle.model.proofs.Values.{bound-values, byte-order, refusal-numbers, answer-values}
@@ -276,6 +277,8 @@ cases =
       refusedListings = refused-listings;
       refusedLists = refused-lists;
       supplied = supplied;
+      conversions = conversions;
+      finePoints = fine-points;
       questionReplies = question-replies;
       callParts = call-parts;
       listReplies = list-replies;

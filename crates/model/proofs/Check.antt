@@ -1,15 +1,15 @@
 -- What an accepted catalogue satisfies, as far as it is cited: lines of the table of refusals 2 to 7, read off the
 -- check. Every law here is for bytes with `Accepted cat`, and a table t of them.
 use Prim.Native.Nat.{ℕ, _+_, _-_, _*_, _≤_, _<_}
-use mathlib.Core.Path.{_≡_, sym, subst, _∙_}
+use mathlib.Core.Path.{_≡_, refl, sym, subst, _∙_}
 use mathlib.Core.List.{List}
 use native.Mathlib.Nat.{zero-add}
 use native.Mathlib.Omega.{arith}
 use lib.ListN.{length}
 use Rattle.columns.specs.Bound.{columnBound}
 use Rattle.columns.specs.Test.{ifEq, ifLt}
-use Rattle.columns.proofs.Test.{ifEq-no, ifLt-no}
-use Rattle.model.specs.Bounds.{tableBound, rowBound}
+use Rattle.columns.proofs.Test.{ifEq-yes, ifEq-no, ifLt-no}
+use Rattle.model.specs.Bounds.{tableBound, rowBound, noParent}
 use Rattle.model.specs.Refusal.{number, orElse, firstOf}
 use Rattle.model.specs.Catalogue.{tables, trailer, columns, parent, rows, parentRow, tableEnd, visible}
 use Rattle.model.specs.Check.{Accepted, checkCode, trailerCode, boundCode}
@@ -120,3 +120,9 @@ module _ (cat : List ℕ) (ok : Accepted cat) where
     accepted-row h k l =
         let n : t ≡ 0 → ⊥ = omega arith in
         ifLt-passes _ _ _ _ (omega arith) (sym (ifEq-no _ n) ∙ no-row k l)
+
+  -- 5: the root has no parent
+  pub accepted-root : parent cat 0 ≡ noParent
+  unfolding parentCode
+  accepted-root =
+      ifEq-passes _ _ _ _ (omega arith) (sym (ifEq-yes {a = 0} {b = 0} _ refl) ∙ no-parent 0 accepted-some)

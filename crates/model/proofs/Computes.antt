@@ -49,6 +49,13 @@ use Rattle.model.specs.Supplied.{albumList, albumRecords, albumEvidence,
 use Rattle.model.specs.Supplied.{keysEvidence, twinsEvidence}
 use Rattle.model.specs.Text.{answerText, listingText, headLine, refusedLine, linesOf, entryLine, entryText}
 use Rattle.model.specs.Text.{rightText, decimal, decimalIn}
+use Rattle.model.specs.Forest.{valueOr, codesFrom, times, tablesIn, rowsIn, contentsIn, contentsOf}
+use Rattle.model.specs.Form.{numberFrom, capped, quotedIn, cellsIn, isDistinct, next, manyIn, skip, digitsEnd}
+use Rattle.model.specs.Form.{expect, wordAt, numeralAt, quotedAt, attributeAt, isAttribute, tagAt, tableOf}
+use Rattle.model.specs.Form.{attributesOf, nameOf, endAt, restAt, isOpen, contentBy, elementAt, documentAt}
+use Rattle.model.specs.Convert.{tagsIn, countOf, rowsFrom, tableFrom, contentsFrom, converted, areBelow, fitsTag}
+use Rattle.model.specs.Convert.{taken, formCode, emptyCode, fitCode, manyCode, fullCode, convertCode}
+use Rattle.model.specs.Convert.{convertMeaning, convertedOutput}
 
 unfoldable pub computes : Unit {0}
 unfolding ones onesIn ifEq ifLt ifLe withoutOf inOrder bySizeFrom ofSize ofSizeFrom u16At u32At bytes2 bytes4 orElse
@@ -70,5 +77,9 @@ unfolding ones onesIn ifEq ifLt ifLe withoutOf inOrder bySizeFrom ofSize ofSizeF
     isSoundEntry isCovered areTrueRecords areSoundEntries areCoveredSets recordsCode soundCode coverCode evidenceCode
     verifyCode verifyMeaning withinOf albumList albumRecords albumEvidence keyEvidence bothEvidence lostList
     keysEvidence twinsEvidence answerText listingText headLine refusedLine linesOf entryLine entryText rightText decimal
-    decimalIn
+    decimalIn valueOr codesFrom times tablesIn rowsIn contentsIn contentsOf numberFrom capped quotedIn cellsIn
+    isDistinct next manyIn skip digitsEnd expect wordAt numeralAt quotedAt attributeAt isAttribute tagAt tableOf
+    attributesOf nameOf endAt restAt isOpen contentBy elementAt documentAt tagsIn countOf rowsFrom tableFrom
+    contentsFrom converted areBelow fitsTag taken formCode emptyCode fitCode manyCode fullCode convertCode
+    convertMeaning convertedOutput
 computes = tt

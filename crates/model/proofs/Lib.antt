@@ -30,4 +30,5 @@ pub mod RefusedCalls
 pub mod Supplied
 pub mod Values
 pub mod Replies
+pub mod Texts
 pub mod Cases

@@ -64,6 +64,9 @@ refusal-numbers =
       falseRecord = refl;
       unsoundEntry = refl;
       uncoveredSet = refl;
+      badText = refl;
+      unfitText = refl;
+      noRoom = refl;
       last = refl;
     }
 
@@ -83,6 +86,7 @@ answer-values =
       opened = λ k n. refl;
       read = λ k. refl;
       accepted = λ k n. refl;
+      convertedBytes = λ n. refl;
       notSound = λ r. refl;
       notAsked = λ r. refl;
       notPaired = λ r. refl;
@@ -91,4 +95,5 @@ answer-values =
       notOpened = λ r. refl;
       notRead = λ r. refl;
       notAccepted = λ r. refl;
+      notConverted = λ r. refl;
     }

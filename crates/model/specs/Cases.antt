@@ -24,6 +24,7 @@ use Rattle.model.specs.Album.{parted, lostAbove, twoKeys, twins}
 use Rattle.model.specs.Damaged.{tooWide, Damages, AtTheBounds, DamageOrder}
 use Rattle.model.specs.RefusedCalls.{OneGround, RefusedQuestions, RefusedListings, RefusedLists}
 use Rattle.model.specs.Supplied.{Supplied}
+use Rattle.model.specs.Texts.{Conversions, FinePoints}
 use Rattle.model.specs.Line.{Line, Fork, Depth}
 use Rattle.model.specs.Replies.{QuestionReplies, CallParts, ListReplies, PackedReplies, TextReplies}
 use Rattle.model.specs.Values.{BoundValues, ByteOrder, RefusalNumbers, AnswerValues}
@@ -115,6 +116,9 @@ pub record Cases : Type 0 where
   pub refusedLists : RefusedLists
   -- specs/Supplied.antt: the album's list with evidence, and each ground of the refusals 17 to 19
   pub supplied : Supplied
+  -- specs/Texts.antt: texts of the supplier's kind, converted and refused, and each fine point of their form
+  pub conversions : Conversions
+  pub finePoints : FinePoints
   -- specs/Replies.antt: replies, and lent memory afterwards
   pub questionReplies : QuestionReplies
   pub callParts : CallParts

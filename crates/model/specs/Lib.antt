@@ -24,6 +24,10 @@ pub mod Evidence
 pub mod Verify
 pub mod Text
 pub mod Encode
+pub mod Forest
+pub mod Xml
+pub mod Form
+pub mod Convert
 pub mod Album
 pub mod Damaged
 pub mod Line
@@ -31,4 +35,5 @@ pub mod RefusedCalls
 pub mod Supplied
 pub mod Values
 pub mod Replies
+pub mod Texts
 pub mod Cases

@@ -21,6 +21,8 @@ use Rattle.model.specs.declared.EntriesAnswer.{EntriesAnswer}
 use Rattle.model.specs.declared.EntriesAnswer.the-variants as entries-answer
 use Rattle.model.specs.declared.VerifyAnswer.{VerifyAnswer}
 use Rattle.model.specs.declared.VerifyAnswer.the-variants as verify-answer
+use Rattle.model.specs.declared.ConvertAnswer.{ConvertAnswer}
+use Rattle.model.specs.declared.ConvertAnswer.the-variants as convert-answer
 
 pub data Reply : Type 0 where
   refused : ℕ → Reply
@@ -75,3 +77,8 @@ entriesReply (entries-answer.Refused r) = refused (number r)
 abbrev pub verifyReply : VerifyAnswer → Reply
 verifyReply (verify-answer.Accepted k n) = answered (k ∷ n ∷ [])
 verifyReply (verify-answer.Refused r) = refused (number r)
+
+-- the number of bytes written
+abbrev pub convertReply : ConvertAnswer → Reply
+convertReply (convert-answer.Converted n) = answered (n ∷ [])
+convertReply (convert-answer.Refused r) = refused (number r)

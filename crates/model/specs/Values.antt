@@ -8,7 +8,7 @@ use Rattle.model.specs.Bounds.{tableBound, rowBound, workBound, smallest
 use Rattle.model.specs.Bytes.{u16At, u32At, bytes2, bytes4, Bytes}
 use Rattle.model.specs.Refusal.{number, lastRefusal}
 use Rattle.model.specs.Reply.{refused, answered, replyOf, checkReply, askReply, pairReply, listReply}
-use Rattle.model.specs.Reply.{packReply, openReply, entriesReply, verifyReply}
+use Rattle.model.specs.Reply.{packReply, openReply, entriesReply, verifyReply, convertReply}
 use Rattle.model.specs.Catalogue.{cell}
 use Rattle.model.specs.Encode.{content, encode}
 use Rattle.model.specs.Album.{album}
@@ -18,6 +18,7 @@ use Rattle.model.specs.declared.Refusal.the-variants.{BadParentTable, To
 use Rattle.model.specs.declared.Refusal.the-variants.{UnknownColumn, UnknownRight, TooFewWords, PastTheEnd}
 use Rattle.model.specs.declared.Refusal.the-variants.{RunTooShort, NoList, BadEntry, OutputTooShort}
 use Rattle.model.specs.declared.Refusal.the-variants.{FalseRecord, UnsoundEntry, UncoveredSet}
+use Rattle.model.specs.declared.Refusal.the-variants.{BadText, UnfitText, NoRoom}
 use Rattle.model.specs.declared.CheckAnswer.the-variants as check-answer
 use Rattle.model.specs.declared.AskAnswer.the-variants as ask-answer
 use Rattle.model.specs.declared.PairAnswer.the-variants as pair-answer
@@ -26,6 +27,7 @@ use Rattle.model.specs.declared.PackAnswer.the-variants as pack-answer
 use Rattle.model.specs.declared.OpenAnswer.the-variants as open-answer
 use Rattle.model.specs.declared.EntriesAnswer.the-variants as entries-answer
 use Rattle.model.specs.declared.VerifyAnswer.the-variants as verify-answer
+use Rattle.model.specs.declared.ConvertAnswer.the-variants as convert-answer
 
 -- "Bounds", "The catalogue file" and "Agreement"
 pub record BoundValues : Type 0 where
@@ -92,7 +94,10 @@ pub record RefusalNumbers : Type 0 where
   pub falseRecord : number FalseRecord ≡ 17
   pub unsoundEntry : number UnsoundEntry ≡ 18
   pub uncoveredSet : number UncoveredSet ≡ 19
-  pub last : _≡_ {A = ℕ} lastRefusal 19
+  pub badText : number BadText ≡ 20
+  pub unfitText : number UnfitText ≡ 21
+  pub noRoom : number NoRoom ≡ 22
+  pub last : _≡_ {A = ℕ} lastRefusal 22
 
 -- a refusal returns its number alone, an answer its values, whatever they are
 pub record AnswerValues : Type 0 where
@@ -114,6 +119,8 @@ pub record AnswerValues : Type 0 where
   pub read : (k : ℕ) → entriesReply (entries-answer.Read k) ≡ answered (k ∷ [])
   -- the check by evidence: entries, and records
   pub accepted : (k n : ℕ) → verifyReply (verify-answer.Accepted k n) ≡ answered (k ∷ n ∷ [])
+  -- converting: bytes
+  pub convertedBytes : (n : ℕ) → convertReply (convert-answer.Converted n) ≡ answered (n ∷ [])
   -- and each refused
   pub notSound : (r : Refusal) → checkReply (check-answer.Refused r) ≡ refused (number r)
   pub notAsked : (r : Refusal) → askReply (ask-answer.Refused r) ≡ refused (number r)
@@ -123,3 +130,4 @@ pub record AnswerValues : Type 0 where
   pub notOpened : (r : Refusal) → openReply (open-answer.Refused r) ≡ refused (number r)
   pub notRead : (r : Refusal) → entriesReply (entries-answer.Refused r) ≡ refused (number r)
   pub notAccepted : (r : Refusal) → verifyReply (verify-answer.Refused r) ≡ refused (number r)
+  pub notConverted : (r : Refusal) → convertReply (convert-answer.Refused r) ≡ refused (number r)

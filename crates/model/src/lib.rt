@@ -1,6 +1,6 @@
 // What a reader must believe: the declared types of every public call and, in specs/, the definitions of the
 // catalogue, of agreement, dependencies and keys, of the full listing and its calls, of the packed list, of the check
-// by evidence and of the listing program's text. The laws about them stand in proofs/.
+// by evidence, of the supplier's text and of the listing program's. The laws about them stand in proofs/.
 // Relies on `columns` for sets of columns and their order. Every other crate cites it.
 
 // The bounds, once in code; specs/Bounds.antt has the same numbers in the definitions. The bound on columns is
@@ -9,13 +9,18 @@ pub const TABLE_BOUND: u32 = 16;
 
 pub const ROW_BOUND: u32 = 4096;
 
-// The same bound as the length of an array: how many rows there is room for.
+// The same bounds as the lengths of arrays: how many tables and rows there is room for.
+pub const TABLES: usize = TABLE_BOUND as usize;
+
 pub const ROWS: usize = ROW_BOUND as usize;
 
 pub const WORK_BOUND: usize = 16384;
 
 // How many bytes the listing program reads at most.
 pub const FILE_BOUND: usize = 32768;
+
+// The number that stands for 'no table' and 'no row' above the root: `noParent` of specs/Bounds.antt.
+pub const NO_PARENT: u16 = 65535;
 
 // The code of a missing cell.
 pub const MISSING: u32 = 4294967295;
@@ -72,6 +77,9 @@ pub enum Refusal {
     FalseRecord,
     UnsoundEntry,
     UncoveredSet,
+    BadText,
+    UnfitText,
+    NoRoom,
 }
 
 // What checking a catalogue answers: how many tables, and how many sets over all targets.
@@ -127,5 +135,11 @@ pub enum EntriesAnswer {
 // What the check of a packed list by evidence answers: how many entries and how many records were accepted.
 pub enum VerifyAnswer {
     Accepted { entries: u32, records: usize },
+    Refused(Refusal),
+}
+
+// What converting a supplier's text answers: how many bytes were written.
+pub enum ConvertAnswer {
+    Converted { bytes: u32 },
     Refused(Refusal),
 }

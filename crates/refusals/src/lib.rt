@@ -1,7 +1,7 @@
 // Not for callers: refusals in code: their numbers, in both directions, and the zeroing of the work words. A ground's
 // code is the refusal's number, or 0 where there is none.
 // Relies on the definitions of `model`. Called by whoever tries grounds or answers: `grounds`, `question`, `catalogue`,
-// `dependency`, `steps`, `verify` and `numbers`; and by the programs that print a refusal.
+// `dependency`, `steps`, `verify`, `convert` and `numbers`; and by the programs that print a refusal.
 ghost use Prim.Native.Nat.{_≤_};
 ghost use mathlib.Core.Path.{_≡_};
 ghost use lib.ListN.{length, replicate};
@@ -47,6 +47,12 @@ pub const UNSOUND_ENTRY: u32 = 18;
 
 pub const UNCOVERED_SET: u32 = 19;
 
+pub const BAD_TEXT: u32 = 20;
+
+pub const UNFIT_TEXT: u32 = 21;
+
+pub const NO_ROOM: u32 = 22;
+
 // The document's number of a refusal.
 pub fn number(why: Refusal) -> u32
     ensures { λ r. ⌜ r ≡ Refusal·number why ⌝ }
@@ -71,6 +77,9 @@ pub fn number(why: Refusal) -> u32
         Refusal::FalseRecord => FALSE_RECORD,
         Refusal::UnsoundEntry => UNSOUND_ENTRY,
         Refusal::UncoveredSet => UNCOVERED_SET,
+        Refusal::BadText => BAD_TEXT,
+        Refusal::UnfitText => UNFIT_TEXT,
+        Refusal::NoRoom => NO_ROOM,
     }
 }
 
@@ -98,6 +107,9 @@ pub fn refusal(code: u32) -> Refusal
         FALSE_RECORD => Refusal::FalseRecord,
         UNSOUND_ENTRY => Refusal::UnsoundEntry,
         UNCOVERED_SET => Refusal::UncoveredSet,
+        BAD_TEXT => Refusal::BadText,
+        UNFIT_TEXT => Refusal::UnfitText,
+        NO_ROOM => Refusal::NoRoom,
         _ => Refusal::FileTooShort,
     }
 }

@@ -1,6 +1,7 @@
 //! Times of the library's calls on named shapes, beside three peers in the same run.
 //!
 //!     bench [SHAPE]...          all shapes if none is named
+//!     bench xml                 the conversion of supplier's texts
 //!
 //! Peers: `simple`, document 01 in plain loops; `TANE`, the level-wise partition search; `table`, the table of
 //! broken rights in plain Rust. A ratio is the peer's time over the library's. Each figure is the least of
@@ -9,8 +10,9 @@
 //! every library call. The peers' listings include reading the catalogue and allocating their memory.
 //!
 //! `shapes` says what the shapes are, `times` which calls are timed, and `verification` what is checked by evidence;
-//! `fork-15` and `album` have nothing else here.
+//! `fork-15` and `album` have nothing else here. `conversion` has texts and a peer of its own.
 
+mod conversion;
 mod process;
 mod shapes;
 mod times;
@@ -35,6 +37,7 @@ fn main() {
     );
     for name in names {
         match (name, shapes::shape(name)) {
+            (conversion::XML, _) => conversion::run(),
             (FORK, _) => verification::many_wide_targets(),
             (ALBUM, _) => verification::album(),
             (_, Some(shape)) => all_calls(&shape),

@@ -62,7 +62,16 @@ returns-18 : tie.Need-returns-18
 returns-18 c = search needs
 
 returns-19 : tie.Need-returns-19
-returns-19 c =
+returns-19 c = search needs
+
+returns-20 : tie.Need-returns-20
+returns-20 c = search needs
+
+returns-21 : tie.Need-returns-21
+returns-21 c = search needs
+
+returns-22 : tie.Need-returns-22
+returns-22 c =
     let code = c .before .args .code in
     sym (first-left _ code (lastRefusal - 1) (c .before .pre .0) (c .before .pre .1) (c .match .rest))
 
@@ -88,4 +97,7 @@ refusal-spec =
     returns-16
     returns-17
     returns-18
-    returns-19)
+    returns-19
+    returns-20
+    returns-21
+    returns-22)

@@ -1,0 +1,4 @@
+pub mod Progress
+pub mod Rest
+pub mod Inside
+pub mod Row

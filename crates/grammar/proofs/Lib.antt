@@ -1,0 +1,9 @@
+pub mod Tag
+pub mod Rest
+pub mod Progress
+pub mod Content
+pub mod Sound
+pub mod Complete
+pub mod Whole
+pub mod Document
+pub mod Unique

@@ -1,0 +1,4 @@
+pub mod First
+pub mod Word
+pub mod Read
+pub mod Progress

@@ -1,0 +1,4 @@
+pub mod Stands
+pub mod Runs
+pub mod Small
+pub mod Attributes

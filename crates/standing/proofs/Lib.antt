@@ -1,0 +1,5 @@
+pub mod Counts
+pub mod Taken
+pub mod Rows
+pub mod Standing
+pub mod Sound
