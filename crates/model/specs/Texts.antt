@@ -3,15 +3,18 @@ use Prim.Native.Nat.{ℕ, zero, suc}
 use Prim.Native.Char.{code}
 use Prim.Native.String.{String, [] as no-character, _∷_ as _then_}
 use mathlib.Core.Path.{_≡_}
+use mathlib.Core.Bool.{Bool}
 use mathlib.Core.List.{List, [], _∷_, _++_}
+use Rattle.columns.specs.Test.{pick}
 use Rattle.model.specs.Bounds.{noParent, missing}
 use Rattle.model.specs.Reply.{answered, refused}
 use Rattle.model.specs.Encode.{content, encode}
-use Rattle.model.specs.Album.{album}
+use Rattle.model.specs.Album.{album, oneMissing}
 use Rattle.model.specs.Damaged.{cut}
 use Rattle.model.specs.Forest.{Forest, none, tree, contentsOf}
 use Rattle.model.specs.Xml.{openRow, openCatalogue, close, rowLetter, catalogueName, less, slash, greater}
-use Rattle.model.specs.Xml.{columnLetter, equals}
+use Rattle.model.specs.Xml.{columnLetter, equals, isWhite, isQuote}
+use Rattle.model.specs.Form.{isDigit}
 use Rattle.model.specs.Convert.{converted, convertCode, convertMeaning, convertedOutput}
 
 -- the bytes of a text
@@ -59,6 +62,11 @@ fork =
     ∷ content 1 1 ((0, missing ∷ []) ∷ (2, 9 ∷ []) ∷ (2, 2 ∷ []) ∷ [])
     ∷ [])
 
+-- those of n bytes from one on that pass a test
+abbrev pub passing : (ℕ → Bool) → ℕ → ℕ → List ℕ
+passing test zero x = []
+passing test (suc n) x = pick (test x) (x ∷ []) [] ++ passing test n (suc x)
+
 -- a word n times
 abbrev pub again : ℕ → List ℕ → List ℕ
 again zero w = []
@@ -80,6 +88,10 @@ pub record Conversions : Type 0 where
   pub words : spelt "<t" ++ (spelt "<catalogue" ++ (spelt "</" ++ spelt "catalogue"))
       ≡ openRow ++ (openCatalogue ++ (close ++ catalogueName))
   pub letters : spelt "t</>c=" ≡ rowLetter ∷ less ∷ slash ∷ greater ∷ columnLetter ∷ equals ∷ []
+  -- of all bytes: tab, line feed, carriage return and space are white space; the two quotes; the ten digits
+  pub whiteBytes : passing isWhite 256 0 ≡ spelt "\t\n\r "
+  pub quoteBytes : passing isQuote 256 0 ≡ spelt "\"'"
+  pub digitBytes : passing isDigit 256 0 ≡ spelt "0123456789"
   -- the rows of a text, as they stand in each other and as they are read
   pub albumStands : encode (contentsOf albumShape albumRows) ≡ album
   pub albumRead : converted albumShape albumText ≡ album
@@ -89,6 +101,7 @@ pub record Conversions : Type 0 where
   pub noRows : converted albumShape (spelt "<catalogue/>") ≡ albumShape
   -- the reply, and the output: written from its start, the rest as it was; a byte less is too short
   pub albumReply : convertMeaning albumShape albumText 84 ≡ answered (84 ∷ [])
+  pub albumLonger : convertMeaning albumShape albumText 85 ≡ answered (84 ∷ [])
   pub albumShort : convertMeaning albumShape albumText 83 ≡ refused 22
   pub written : convertedOutput albumShape (spelt "<catalogue/>") (again 28 (7 ∷ [])) ≡ albumShape ++ (7 ∷ 7 ∷ [])
   pub untouched : convertedOutput albumShape (spelt "<catalogue/>") (again 25 (7 ∷ [])) ≡ again 25 (7 ∷ [])
@@ -96,6 +109,7 @@ pub record Conversions : Type 0 where
   pub shapeFirst : convertCode cut (spelt "5") 0 ≡ 1
   pub textBeforeRows : convertCode album (spelt "<catalogue/>5") 0 ≡ 20
   pub shapeWithRows : convertCode album (spelt "<catalogue/>") 0 ≡ 21
+  pub shapeWithARootRow : convertCode oneMissing (spelt "<catalogue/>") 100 ≡ 21
   pub unfitBeforeRoom : convertCode albumShape (spelt "<catalogue><t2/></catalogue>") 0 ≡ 21
   pub noRoom : convertCode albumShape (spelt "<catalogue><t0/></catalogue>") 0 ≡ 22
   -- 16 rows in each other are of the form, 17 are not
@@ -123,13 +137,17 @@ pub record FinePoints : Type 0 where
   pub inTheColumn : Rows "<t0 c 0='5'/>" 20
   pub beforeTheValue : Rows "<t0 c0=' 5'/>" 20
   pub behindTheValue : Rows "<t0 c0='5 '/>" 20
-  pub otherWhite : Rows "<t0\u{c}/>" 20
+  pub formFeed : Rows "<t0\u{c}/>" 20
+  pub verticalTab : Rows "<t0\u{b}/>" 20
+  pub zeroByte : Rows "<t0\0/>" 20
+  pub noBreakSpace : Rows "<t0\u{a0}/>" 20
   -- some is required before each attribute
   pub noneBefore : Rows "<t0c0='5'/>" 20
   pub noneBetween : Rows "<t0><t1 c0='1'c1='7'/></t0>" 20
   -- either quote, the same behind as before
   pub doubleQuotes : Rows "<t0 c0=\"5\"/>" 0
   pub mixedQuotes : Rows "<t0 c0='5\"/>" 20
+  pub backtick : Rows "<t0 c0=`5`/>" 20
   pub noQuotes : Rows "<t0 c0=5 />" 20
   -- both ways of an empty element; end tags that match
   pub shortEmpty : Rows "<t0/>" 0
@@ -158,6 +176,8 @@ pub record FinePoints : Type 0 where
   pub noDigits : Rows "<t0 c0=''/>" 20
   pub twoZeros : Rows "<t0 c0='00'/>" 20
   pub zeroBefore : Rows "<t0 c0='05'/>" 20
+  pub colonForADigit : Rows "<t0 c0=':'/>" 20
+  pub slashForADigit : Rows "<t0 c0='/'/>" 20
   pub signedValue : Rows "<t0 c0='+5'/>" 20
   pub noValue : Rows "<t0 c0/>" 20
   pub columnZero : Rows "<t0 c00='5'/>" 20
@@ -166,6 +186,7 @@ pub record FinePoints : Type 0 where
   pub anyOrder : Rows "<t0><t1 c1='7' c0='1'/></t0>" 0
   pub twice : Rows "<t0 c0='5' c0='5'/>" 20
   pub twiceApart : Rows "<t0><t1 c0='1' c1='7' c0=\"1\"/></t0>" 20
+  pub twiceAtTheEnd : Rows "<t0><t1 c0='1' c1='7' c1='7'/></t0>" 20
   pub twiceTooLarge : Rows "<t0 c99999999999999999999='1' c99999999999999999999='2'/>" 20
   pub onCatalogue : Text "<catalogue c0='5'/>" 20
   -- other text, comments, entities, prologs, declarations, namespaces, a byte order mark, a second root
@@ -187,6 +208,7 @@ pub record FinePoints : Type 0 where
   pub unknownTable : Rows "<t2/>" 21
   pub tooLargeTable : Rows "<t18446744073709551616/>" 21
   pub unknownColumn : Rows "<t0 c1='5'/>" 21
+  pub secondColumnUnknown : Rows "<t0><t1 c0='1' c2='7'/></t0>" 21
   pub tooLargeColumn : Rows "<t0 c4294967296='5'/>" 21
   pub differentTooLarge : Rows "<t0 c4294967295='1' c4294967296='2'/>" 21
   pub childAtTheRoot : Rows "<t1/>" 21
