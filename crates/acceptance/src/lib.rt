@@ -4,3 +4,4 @@
 // Relies on the definitions of `model`, on the laws of `evidence` on records and tests, and on those of `packed`,
 // `entries` and `grounds` on packed lists and codes. No crate relies on it: its theorems are about the definitions that
 // the contract of `verify::verify` cites.
+#![tactic(auto)]

@@ -2,6 +2,8 @@
 // that no table, column or cell has is read as the code of a missing cell.
 // Relies on `layout` for the shape and on the definitions of `model`. Called by `scanner`, `elements`,
 // `tags` and `sheets`.
+#![tactic(auto)]
+
 ghost use Rattle.std.specs.Prelude.{◌≡◌, not, eqb, length, drop, set};
 ghost use Rattle.columns.specs.Bound.{column_bound};
 ghost use Rattle.model.specs.Xml.{is_quote, is_fresh};

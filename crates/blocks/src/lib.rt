@@ -3,6 +3,8 @@
 // rights, and a cursor to the one that is asked for next. Promised are the rights of each left side that stands there:
 // other left sides, or a cursor that misses, would only cost time.
 // Relies on the definitions of `model` and `columns`, and on `planes` for the plane of each right. Called by `rights`.
+#![tactic(auto)]
+
 ghost use Rattle.std.specs.Prelude.{◌+◌, ◌/◌, ◌^◌, ◌≤◌, ◌<◌, ◌≡◌, true, length};
 ghost use Rattle.columns.specs.Bound.{column_bound};
 ghost use Rattle.planes.specs.Plane.{seed_words};

@@ -2,6 +2,8 @@
 // Relies on `grounds`, where each ground of the refusals 1 to 7 has a function, on `layout` for how many tables and
 // sets there are, and on `refusals` for the refusal that has a number. Called by hosts and programs; the other public
 // calls check first by themselves.
+#![tactic(auto)]
+
 ghost use Rattle.std.specs.Prelude.{◌≡◌};
 ghost use Rattle.model.specs.Reply.{check_reply};
 ghost use Rattle.model.specs.Check.{check_meaning};

@@ -2,6 +2,8 @@
 // with at most 256 of them. Rows are then compared by bytes, twice as many at a time as by keys.
 // Relies on the definitions of `leaders` for keys and on a law of `filled`. Called by `scan`; `lines` reads the
 // numbers.
+#![tactic(auto)]
+
 ghost use Rattle.std.specs.Prelude.{◌+◌, ◌≤◌, ◌<◌, ◌≡◌, length};
 ghost use Rattle.columns.specs.Bound.{column_bound};
 ghost use Rattle.model.specs.Bounds.{row_bound};

@@ -2,6 +2,8 @@
 // them at a time, and numbers of the catalogue by one load each, with no test, where the caller knows that they are
 // within the bytes, as proofs/Within.antt tells.
 // Relies on `model` and `filled`. Called by `keys` and `presence`.
+#![tactic(auto)]
+
 ghost use Rattle.std.specs.Prelude.{ℕ, ◌+◌, ◌*◌, ◌≤◌, ◌<◌, ◌≡◌, length, get_or};
 ghost use Rattle.model.specs.Bounds.{row_bound};
 ghost use Rattle.model.specs.Bytes.{u16_at, u32_at};

@@ -1,6 +1,8 @@
 // Sets of columns, by value, and their listing order: by size, then by number. Every method goes by the members
 // alone: bits at or above the bound count for nothing.
 // Relies on `bits` for powers of two. Called by every crate that speaks of left sides.
+#![tactic(auto)]
+
 ghost use Rattle.std.specs.Prelude.{suc, ◌≤◌, ◌<◌, ◌≡◌, get_or, length};
 ghost use Rattle.columns.specs.Bound.{column_bound};
 ghost use Rattle.columns.specs.Set.{bit, member_of, members_of, member_count, subset_of, without_of, full_of};
@@ -19,13 +21,13 @@ const SIZES: usize = COLUMN_BOUND as usize + 1;
 const COLUMNS: u32 = (1 << COLUMN_BOUND) - 1;
 
 // Column k is a member if k is below the bound and bit k is 1.
-#[derive(Drop)]
+#[derive(Clone, Copy)]
 pub struct ColumnSet {
     pub bits: u32,
 }
 
 // A set, or 'none'.
-#[derive(Drop)]
+#[derive(Clone, Copy)]
 pub enum SetOrNone {
     Set(ColumnSet),
     Nothing,

@@ -4,3 +4,4 @@
 // Relies on the definitions of `model`, on the laws of `grammar` and `numerals` on texts, and on those of `standing`
 // and `encoding` on the tables that a text makes and on their file. No crate relies on it: its theorems are about the
 // definitions that the contract of the conversion cites.
+#![tactic(auto)]

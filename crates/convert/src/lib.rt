@@ -5,6 +5,8 @@
 // for how many rows each table has, on `sheets` for the bytes, on `layout` for the shape and on `refusals` for the
 // refusal that has a number. `conversion` has the theorems about what it writes and refuses. Called by hosts and
 // programs.
+#![tactic(auto)]
+
 ghost use Rattle.std.specs.Prelude.{◌≡◌, length};
 ghost use Rattle.model.specs.Catalogue.{tables};
 ghost use Rattle.model.specs.Check.{Accepted, check_code};

@@ -3,6 +3,8 @@
 // cover for every right.
 // Relies on `presence` for the plane of backed sets, on `marks` for the others, on `table` for the right that a bit
 // stands for, and on `layout` for how many columns there are. Called by `verify`.
+#![tactic(auto)]
+
 ghost use Rattle.std.specs.Prelude.{◌+◌, ◌*◌, ◌≤◌, ◌<◌, ◌≡◌, true, ◌↔◌, length};
 ghost use Rattle.model.specs.Bounds.{row};
 ghost use Rattle.model.specs.Catalogue.{tables};

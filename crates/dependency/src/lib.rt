@@ -3,6 +3,8 @@
 // Relies on `question` for what stands against a question, on `refusals` for the refusal that has a number and for the
 // work words, on `keys` for the keys of the members that a question looks at, on `partition` and `search`, which answer
 // it from keys alone, and on `layout` for rows and columns. Called by hosts and programs.
+#![tactic(auto)]
+
 ghost use Rattle.std.specs.Prelude.{◌≡◌, length};
 ghost use Rattle.model.specs.Question.{question_code, ask_meaning, pair_meaning};
 ghost use Rattle.model.specs.Reply.{ask_reply, pair_reply, words_after};

@@ -1,5 +1,7 @@
 // Runs the proved cases K1 to K9 and the boundary cases of the question and of the first breaking pair through the
 // compiled calls, and prints what came back.
+#![tactic(auto)]
+
 mod large;
 mod print;
 

@@ -2,6 +2,8 @@
 // form, and if so asked with every tag in its place in the shape?
 // Relies on `model`, on `scanner` for the parts of a tag, on `attributes` for its numbers and attributes, on `file` for
 // a byte and on the laws of `readers`. Called by `convert`.
+#![tactic(auto)]
+
 ghost use Rattle.std.specs.Prelude.{◌≡◌, not, eqb, drop};
 ghost use Rattle.model.specs.Bounds.{table_bound, no_parent};
 ghost use Rattle.model.specs.Xml.{catalogue_name};

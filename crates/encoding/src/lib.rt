@@ -3,3 +3,4 @@
 // long it is.
 // Relies on the definitions of `model`, on its laws on grounds and accepted catalogues, and on those of `file` on
 // numbers. Cited by `standing`, `numerals`, `sheets`, `convert` and `conversion`.
+#![tactic(auto)]

@@ -2,6 +2,8 @@
 // of a file from a position on?
 // Relies on the definitions of `model`, on `file` for numbers in a file and on `columns` for left sides. Called by
 // `unpacking`, `packing`, `packed`, `marks` and `soundness`; their proofs cite the laws on entries as bytes.
+#![tactic(auto)]
+
 ghost use Rattle.std.specs.Prelude.{◌+◌, ◌*◌, ◌≤◌, ◌≡◌, length};
 ghost use Rattle.columns.specs.Set.{member_of, size_of};
 ghost use Rattle.columns.specs.Test.{if_eq};

@@ -3,6 +3,8 @@
 // back from their bytes, and how a function is shown to answer true exactly if something holds.
 // Relies on the definitions of `model`, on `file` for numbers in a file and on `bits` for powers of two. Called by
 // `records`, `marks` and `soundness`; its laws are cited by these, by `coverage`, `verify` and `acceptance`.
+#![tactic(auto)]
+
 ghost use Rattle.std.specs.Prelude.{◌<◌, ◌≡◌, true, ◌↔◌};
 ghost use Rattle.model.specs.Evidence.{record_at};
 ghost use Rattle.evidence.specs.Sides.{SidesFit};

@@ -2,6 +2,8 @@
 // reads as 0.
 // Relies on the definitions of `model`. Called by `layout`, `grounds`, `entries`, `packing`, `unpacking`, `evidence`
 // and `marks`; the laws on numbers as bytes stand in proofs/.
+#![tactic(auto)]
+
 ghost use Rattle.std.specs.Prelude.{◌+◌, ◌%◌, ◌≤◌, ◌≡◌, length};
 ghost use Rattle.std.proofs.lemmas.List.Edits.{sets};
 ghost use Rattle.model.specs.Bytes.{byte_at, u16_at, u32_at, bytes2, bytes4};

@@ -4,3 +4,4 @@
 // one is shown of one more.
 // Relies on nothing. Its laws are cited by `table`, `grouping`, `climb`, `keys`, `presence`, `partition`, `classes`,
 // `lines`, `scan`, `evidence`, `marks` and `rights`.
+#![tactic(auto)]

@@ -2,3 +2,4 @@
 // that a text means one forest only. Laws alone, no function.
 // Relies on the definitions of `model` and on the laws of `readers`, `spelling` and `numerals`. Cited by
 // `conversion`.
+#![tactic(auto)]

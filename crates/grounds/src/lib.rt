@@ -2,6 +2,8 @@
 // ground's code is the refusal's number, or 0 where there is none.
 // Relies on `layout` and `file` for what stands where, on `refusals` for the numbers and on the definitions of `model`.
 // Called by `catalogue`, `question`, `steps`, `verify` and `pages`.
+#![tactic(auto)]
+
 ghost use Rattle.std.specs.Prelude.{◌≡◌};
 ghost use Rattle.columns.specs.Test.{if_eq, if_lt};
 ghost use Rattle.model.specs.Bounds.{no_parent};

@@ -2,6 +2,8 @@
 // found in chains of the leaders so far, one chain for each value of a hash of the words, and words are compared
 // exactly.
 // Relies on the definitions and laws of `leaders` and on a law of `filled`. Called by `keys` and `partition`.
+#![tactic(auto)]
+
 ghost use Rattle.std.specs.Prelude.{◌+◌, ◌≤◌, ◌<◌, ◌≡◌, get_or, length};
 ghost use Rattle.model.specs.Bounds.{row_bound};
 ghost use Rattle.leaders.specs.Keys.{first_same};

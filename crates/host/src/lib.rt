@@ -1,6 +1,8 @@
 // The public calls for C and other languages: numbers and slices, a refusal as its number made negative.
 // Relies on every crate whose call it hands on, and on `numbers` for the number of an answer. Called by host
 // programs; include/cagberin.h declares it.
+#![tactic(auto)]
+
 ghost use Rattle.std.specs.Prelude.{ℕ, ◌≡◌, negsuc, length};
 ghost use Rattle.model.specs.Reply.{words_after};
 ghost use Rattle.model.specs.Check.{check_meaning};

@@ -3,6 +3,8 @@
 // Relies on `layout` for what stands where, on `climb` for the rows reached, on `grouping` for rows grouped by words,
 // and on the laws of `leaders` and `filled`. Called by `rights`, `dependency`, `records` and
 // `soundness`.
+#![tactic(auto)]
+
 mod column;
 
 ghost use Rattle.std.specs.Prelude.{ℕ, ◌+◌, ◌-◌, ◌*◌, ◌^◌, ◌≤◌, ◌<◌, ◌≡◌, length, get_or};

@@ -2,6 +2,8 @@
 // Nothing is parsed into a state of its own.
 // Relies on `file` for numbers in a file and on the definitions of `model`. Called by `grounds`, `catalogue` and all
 // that ask a catalogue.
+#![tactic(auto)]
+
 ghost use Rattle.std.specs.Prelude.{◌≡◌, ◌+◌, ◌-◌, ◌*◌, ◌^◌, ◌<◌};
 ghost use Rattle.model.specs.Catalogue.{tables as tables_of, trailer as trailer_of, table_at, columns as columnsOf};
 ghost use Rattle.model.specs.Catalogue.{parent as parent_of, rows as rows_of, row_at, table_end};

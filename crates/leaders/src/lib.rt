@@ -4,6 +4,7 @@
 // above the keys nothing looks at codes, missing cells or ancestor rows.
 // Relies on the definitions of `model` and `table`. Cited by `grouping`, `keys`, `partition`, `search`, `dependency`,
 // `classes`, `lines`, `scan`, `rights`, `records` and `soundness`.
+#![tactic(auto)]
 
 pub use model::ROWS;
 

@@ -3,6 +3,8 @@
 // (`part`); the others by their keys, one after the other (`wide`).
 // Relies on `classes` for the numbers, on the definitions of `leaders` and `table` for keys and agree sets, and on a
 // law of `filled`. Called by `scan`.
+#![tactic(auto)]
+
 mod part;
 mod wide;
 

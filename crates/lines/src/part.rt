@@ -14,7 +14,7 @@ use leaders::ROWS;
 
 // What a row is compared by on one member: where the member's numbers stand, the row's own number, and the member's
 // bit, or 0 where it counts for nothing.
-#[derive(Drop)]
+#[derive(Clone, Copy)]
 pub struct Comparand {
     pub at: usize,
     pub own: u8,
@@ -22,7 +22,7 @@ pub struct Comparand {
 }
 
 // The same on eight members.
-#[derive(Drop)]
+#[derive(Clone, Copy)]
 pub struct Eight {
     pub m0: Comparand,
     pub m1: Comparand,

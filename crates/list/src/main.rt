@@ -1,6 +1,8 @@
 // Lists a catalogue: reads it from standard input and prints its whole listing, or why it has none.
 // Relies on `pages` for the text and on `text` for writing it. The text is `answer_text` of `model`: `print` writes it
 // page by page, and only reading and writing are beyond its contract.
+#![tactic(auto)]
+
 ghost use Rattle.std.specs.Prelude.{◌≡◌, true, length};
 ghost use Rattle.model.specs.Text.{answer_text};
 ghost use Rattle.pages.specs.Pages.{page_bound, word_count, Lent};

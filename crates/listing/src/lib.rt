@@ -1,6 +1,8 @@
 // The listing call: entries are put into a lent run of records, one after the other, as `steps` says: `list` stores
 // and counts.
 // Relies on `steps` for everything else. Called by hosts and programs.
+#![tactic(auto)]
+
 ghost use Rattle.std.specs.Prelude.{◌≡◌};
 ghost use Rattle.model.specs.Reply.{list_reply};
 ghost use Rattle.model.specs.List.{ListMeaning};

@@ -4,6 +4,8 @@
 // read. Which sets are backed is read off a plane that is handed in.
 // Relies on the definitions of `model` and `columns`, on `entries` and `evidence` for entries and records in bytes, and
 // on `planes` for the closing. Called by `soundness` and `coverage`.
+#![tactic(auto)]
+
 ghost use Rattle.std.specs.Prelude.{ℕ, ◌+◌, ◌*◌, ◌^◌, ◌≤◌, ◌<◌, ◌≡◌, true, ◌↔◌, length};
 ghost use Rattle.columns.specs.Bound.{column_bound};
 ghost use Rattle.model.specs.Bytes.{byte_at};

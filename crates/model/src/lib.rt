@@ -2,6 +2,7 @@
 // catalogue, of agreement, dependencies and keys, of the full listing and its calls, of the packed list, of the check
 // by evidence, of the supplier's text and of the listing program's. The laws about them stand in proofs/.
 // Relies on `columns` for sets of columns and their order. Every other crate cites it.
+#![tactic(auto)]
 
 // The bounds, once in code; specs/Bounds.antt has the same numbers in the definitions. The bound on columns is
 // `columns::COLUMN_BOUND`.
@@ -40,7 +41,7 @@ pub const EVIDENCE_BYTES: usize = 8;
 // An entry of a listing: in the target table, the left side gives the right side. Laid out as in C, so that hosts can
 // lend runs of them.
 #[repr(C)]
-#[derive(Drop)]
+#[derive(Clone, Copy)]
 pub struct Entry {
     pub target: u8,
     pub right: u8,
@@ -49,7 +50,7 @@ pub struct Entry {
 
 // An evidence record: two rows of the target, said to agree on the set and disagree on the right side. It travels as
 // bytes.
-#[derive(Drop)]
+#[derive(Clone, Copy)]
 pub struct Evidence {
     pub target: u8,
     pub right: u8,
@@ -59,7 +60,7 @@ pub struct Evidence {
 }
 
 // Why a call is refused; `number` of specs/Refusal.antt gives each its number.
-#[derive(Drop)]
+#[derive(Clone, Copy)]
 pub enum Refusal {
     FileTooShort,
     BadTrailer,
@@ -86,14 +87,14 @@ pub enum Refusal {
 }
 
 // What checking a catalogue answers: how many tables, and how many sets over all targets.
-#[derive(Drop)]
+#[derive(Clone, Copy)]
 pub enum CheckAnswer {
     Sound { tables: u32, sets: u32 },
     Refused(Refusal),
 }
 
 // Does the dependency hold?
-#[derive(Drop)]
+#[derive(Clone, Copy)]
 pub enum AskAnswer {
     Holds,
     Breaks,
@@ -101,7 +102,7 @@ pub enum AskAnswer {
 }
 
 // The first pair of rows that breaks the dependency, the lower row first, or 'none'.
-#[derive(Drop)]
+#[derive(Clone, Copy)]
 pub enum PairAnswer {
     Rows { first: u32, second: u32 },
     Nothing,
@@ -109,49 +110,49 @@ pub enum PairAnswer {
 }
 
 // What a listing call answers: the next place, how many sets it passed and how many entries it wrote.
-#[derive(Drop)]
+#[derive(Clone, Copy)]
 pub enum ListAnswer {
     Listed { place: u32, passed: u32, count: u32 },
     Refused(Refusal),
 }
 
 // How many bytes packing wrote.
-#[derive(Drop)]
+#[derive(Clone, Copy)]
 pub enum PackAnswer {
     Packed { bytes: usize },
     Refused(Refusal),
 }
 
 // Whether a packed list may be read: how many entries it has, and how many bytes stand in front of it.
-#[derive(Drop)]
+#[derive(Clone, Copy)]
 pub enum OpenAnswer {
     Opened { entries: u32, front: usize },
     Refused(Refusal),
 }
 
 // The next entry of a packed list, or 'end'.
-#[derive(Drop)]
+#[derive(Clone, Copy)]
 pub enum ReadAnswer {
     Next(Entry),
     End,
 }
 
 // How many entries of a packed list were read into a lent run.
-#[derive(Drop)]
+#[derive(Clone, Copy)]
 pub enum EntriesAnswer {
     Read { count: usize },
     Refused(Refusal),
 }
 
 // What the check of a packed list by evidence answers: how many entries and how many records were accepted.
-#[derive(Drop)]
+#[derive(Clone, Copy)]
 pub enum VerifyAnswer {
     Accepted { entries: u32, records: usize },
     Refused(Refusal),
 }
 
 // What converting a supplier's text answers: how many bytes were written.
-#[derive(Drop)]
+#[derive(Clone, Copy)]
 pub enum ConvertAnswer {
     Converted { bytes: u32 },
     Refused(Refusal),

@@ -1,5 +1,7 @@
 // Not for callers: the number that an answer goes back to C as, a refusal as its number made negative.
 // Relies on the answers and replies of `model` and on `refusals` for a refusal's number. Called by `host`.
+#![tactic(auto)]
+
 ghost use Rattle.std.specs.Prelude.{ℕ, ◌<◌, ◌^◌, ◌≡◌, neg_ℤ, pos, negsuc};
 ghost use Rattle.model.specs.Refusal.{number as Refusal·number};
 ghost use Rattle.model.specs.Reply.{list_reply, pack_reply, entries_reply};

@@ -5,6 +5,8 @@
 // Relies on the definitions of `model`, on `entries` for 15, and on `unpacking` and `packing` for all that needs no
 // run of records and no reader.
 // Called by hosts and programs, and by `verify`.
+#![tactic(auto)]
+
 mod fill;
 
 ghost use Rattle.std.specs.Prelude.{◌≡◌, length};

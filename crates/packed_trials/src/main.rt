@@ -2,6 +2,8 @@
 // on outputs that just fit and are one byte short, and on lists damaged in every way that 14 and 15 name, at the
 // first, a middle and the last entry; and reads lists entry by entry (`reading`). It prints what came back: of a
 // refused file the refusal, no byte in front and no entry.
+#![tactic(auto)]
+
 mod pack;
 mod print;
 mod reading;

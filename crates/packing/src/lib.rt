@@ -1,6 +1,8 @@
 // Not for callers: packing entries one by one. `packed::pack` goes over them twice, to check them and to write them:
 // `begin_checks` begins, `step` goes on with the entry that is to come, until an answer stands.
 // Relies on the definitions of `model`, on `file` for numbers in a file and on `entries` for 15. Called by `packed`.
+#![tactic(auto)]
+
 ghost use Rattle.std.specs.Prelude.{◌+◌, ◌≤◌, ◌<◌, ◌≡◌, true, false, ltb, length};
 ghost use Rattle.std.proofs.lemmas.List.Edits.{sets};
 ghost use Rattle.model.specs.Entries.{entry_bytes, bytes_of};
@@ -13,7 +15,7 @@ use model::{ENTRY_BYTES, Entry, PackAnswer, Refusal, TRAILER_BYTES};
 
 // Where packing stands: all entries are checked first, and then written. While it is going on, an entry is to come:
 // whether it is to be written, its index, and the entry before it. Else the answer.
-#[derive(Drop)]
+#[derive(Clone, Copy)]
 pub struct Packing {
     pub going: bool,
     pub writing: bool,

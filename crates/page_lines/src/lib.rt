@@ -1,5 +1,7 @@
 // Not for callers: the lines of the listing program, put into lent bytes.
 // Relies on `text` for words, numbers and entries, and on `listing` for what a run is. Called by `pages`.
+#![tactic(auto)]
+
 ghost use Rattle.std.specs.Prelude.{◌≤◌, length, take};
 ghost use Rattle.model.specs.Text.{entry_line, lines_of, head_line, refused_line};
 ghost use Rattle.text.specs.Puts.{Puts};

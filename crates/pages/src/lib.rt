@@ -2,6 +2,8 @@
 // first one has the head line before them.
 // Relies on `listing` for the entries, on `grounds` and `layout` for the check and on `page_lines` for what is put.
 // Called by `list`.
+#![tactic(auto)]
+
 ghost use Rattle.std.specs.Prelude.{◌+◌, ◌≤◌, ◌<◌, ◌≡◌, length, drop};
 ghost use Rattle.model.specs.Bounds.{work_bound};
 ghost use Rattle.model.specs.Calls.{flat};
@@ -15,7 +17,7 @@ use page_lines::{put_head, put_refused, put_run};
 
 // How many bytes stand at the start of the buffer, and from which place on the lines are still to come: none at the
 // last place.
-#[derive(Drop)]
+#[derive(Clone, Copy)]
 pub struct Page {
     pub len: usize,
     pub place: u32,

@@ -3,6 +3,8 @@
 // the rows for each member and each right, and none over pairs of rows.
 // Relies on `grouping` for the leaders by one number a row, on the laws of `leaders` and `filled`, and on `table` for
 // sets of rights. Called by `rights`, `search` and `dependency`.
+#![tactic(auto)]
+
 ghost use Rattle.std.specs.Prelude.{◌≡◌, ◌↔◌, true, ℕ, suc, ◌^◌, ◌≤◌, ◌<◌, List, length};
 ghost use Rattle.columns.specs.Bound.{column_bound};
 ghost use Rattle.columns.specs.Set.{bit};

@@ -1,12 +1,14 @@
 // Not for callers: where a walk through the sets of a listing stands, and how it passes its set: with the set's
 // rights pending if their entries fit, and else not at all. It looks at no catalogue.
 // Relies on the definitions of `model` and `columns`. Called by `walk`; `rights` and `steps` name its types.
+#![tactic(auto)]
+
 ghost use Rattle.std.specs.Prelude.{◌≡◌};
 ghost use Rattle.passing.specs.Pass.{passed_by, Passable};
 
 // What the work words hold for a target: the table of broken rights, a word for each left side; or a bit for each
 // agree set, and the rights of some left sides.
-#[derive(Drop)]
+#[derive(Clone, Copy)]
 pub enum Held {
     Table,
     Seeds,
@@ -16,7 +18,7 @@ pub enum Held {
 // passed, what the work words hold for that target and which rights it has; the place after the set, the budget and
 // the room that are left from there on, how many sets are passed and how many entries they have; and the rights of the
 // set that are still to be put.
-#[derive(Drop)]
+#[derive(Clone, Copy)]
 pub struct Walk {
     pub target: u32,
     pub left: u32,
@@ -32,7 +34,7 @@ pub struct Walk {
 }
 
 // A walk at the next set, or none.
-#[derive(Drop)]
+#[derive(Clone, Copy)]
 pub enum Reached {
     At(Walk),
     Stop,

@@ -1,5 +1,7 @@
 // Finds sets by their places, and compares them with the walk, which goes from each set to the next: by the set at an
 // index (`sets`), and by listing calls that pass one set (`places`). Prints what came of it.
+#![tactic(auto)]
+
 mod places;
 mod sets;
 

@@ -3,6 +3,8 @@
 // sides lie inside one.
 // Relies on the definitions of `model` and `columns`, and on `table` for the closing. Called by `blocks`, `marks`,
 // `presence`, `rights`, `soundness` and `coverage`; `scan` makes the seeds.
+#![tactic(auto)]
+
 ghost use Rattle.std.specs.Prelude.{◌-◌, ◌/◌, ◌^◌, ◌≤◌, ◌<◌, ◌≡◌, true, ◌↔◌, length};
 ghost use Rattle.columns.specs.Bound.{column_bound};
 ghost use Rattle.table.specs.Words.{Narrow};

@@ -2,6 +2,8 @@
 // sides that they back, which are those inside the set of some row.
 // Relies on `layout` for what stands where, on `climb` for numbers of the catalogue, on `planes` for the closing, and
 // on the laws of `table` and `filled`. Called by `rights`, `soundness` and `coverage`.
+#![tactic(auto)]
+
 ghost use Rattle.std.specs.Prelude.{ℕ, ◌+◌, ◌*◌, ◌^◌, ◌≤◌, ◌<◌, ◌≡◌, not, eqb, length};
 ghost use Rattle.columns.specs.Bound.{column_bound};
 ghost use Rattle.columns.specs.Set.{set_below};

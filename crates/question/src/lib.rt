@@ -2,6 +2,8 @@
 // is the refusal's number, or 0 where there is none.
 // Relies on `grounds` for the check's grounds, on `layout` for what stands where and on `refusals` for the numbers.
 // Called by `dependency`.
+#![tactic(auto)]
+
 ghost use Rattle.std.specs.Prelude.{◌≡◌};
 ghost use Rattle.model.specs.Question.{target_code, left_side_code, right_side_code, sides_code, words_code, question_code};
 

@@ -2,3 +2,4 @@
 // after another, and a reader again and again. No function.
 // Relies on the definitions of `model`. Cited by `numerals`, `spelling`, `grammar`, `scanner` and
 // `elements`.
+#![tactic(auto)]

@@ -2,6 +2,8 @@
 // all records of the target.
 // Relies on `evidence` for the records and the sides that a target allows, on `keys` for the keys and on `layout` for
 // how many rows and columns there are. Called by `verify`.
+#![tactic(auto)]
+
 ghost use Rattle.std.specs.Prelude.{◌*◌, ◌≤◌, ◌<◌, ◌≡◌, true, ◌↔◌, length};
 ghost use Rattle.columns.specs.Bound.{column_bound};
 ghost use Rattle.model.specs.Bounds.{row, row_bound};

@@ -2,6 +2,8 @@
 // code is the refusal's number, or 0 where there is none.
 // Relies on the definitions of `model`. Called by whoever tries grounds or answers: `grounds`, `question`, `catalogue`,
 // `dependency`, `steps`, `verify`, `convert` and `numbers`; and by the programs that print a refusal.
+#![tactic(auto)]
+
 ghost use Rattle.std.specs.Prelude.{◌≤◌, ◌≡◌, length, replicate};
 ghost use Rattle.model.specs.Refusal.{number as Refusal·number, last_refusal};
 ghost use Rattle.model.specs.declared.Refusal.TheVariants.{FileTooShort};

@@ -6,6 +6,8 @@
 // `blocks` for what the words hold, on `partition` for one left side alone, on `layout` for how many rows and columns
 // there are and on `passing` for the type that tells what the words hold. No cell is looked at but in `keys` and
 // `presence`. Called by `walk`; `steps` cites its laws.
+#![tactic(auto)]
+
 ghost use Rattle.std.specs.Prelude.{◌≡◌, ℕ, suc, ◌+◌, ◌-◌, ◌^◌, ◌≤◌, ◌<◌, length};
 ghost use Rattle.columns.specs.Bound.{column_bound};
 ghost use Rattle.model.specs.Bounds.{work_bound};
@@ -30,7 +32,7 @@ use planes::{PLANE, bit_at};
 
 // A target that is entered: what the work words hold for it and all its rights; for one set by itself, the listed
 // rights of that set, and nothing of the words.
-#[derive(Drop)]
+#[derive(Clone, Copy)]
 pub struct Entered {
     pub held: Held,
     pub mask: u32,

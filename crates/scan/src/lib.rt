@@ -2,6 +2,8 @@
 // for each agree set notes which of them occur in the lines of the rows, and the words are written from these bytes.
 // Relies on `classes` and `lines` for the lines, and on the definitions of `table` and `planes`. Called by `rights` and
 // `soundness`.
+#![tactic(auto)]
+
 mod broken;
 mod pairs;
 mod seeds;

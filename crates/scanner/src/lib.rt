@@ -2,6 +2,8 @@
 // what it reads there, or 0 where that does not stand there.
 // Relies on `model`, on `file` for a byte, on `attributes` for a number and on the laws of `readers`. Called by
 // `elements`; the laws on how far a reader goes stand in proofs/Progress.antt.
+#![tactic(auto)]
+
 ghost use Rattle.std.specs.Prelude.{◌≡◌};
 ghost use Rattle.model.specs.Xml.{is_white};
 ghost use Rattle.model.specs.Form.{is_digit, many, skip, digits_end, expect, word_at};

@@ -2,6 +2,8 @@
 // right side with its leader on the left; the first breaking pair is the lowest leader that a row strays from, and the
 // lowest such row.
 // Relies on `partition` for the leaders of a left side and on the laws of `leaders`. Called by `dependency`.
+#![tactic(auto)]
+
 ghost use Rattle.std.specs.Prelude.{◌≤◌, ◌<◌, ◌≡◌, get_or, length};
 ghost use Rattle.columns.specs.Bound.{column_bound};
 ghost use Rattle.model.specs.Bounds.{row, row_bound};
@@ -15,7 +17,7 @@ use model::ROW;
 use partition::leaders_of;
 
 // The first breaking pair, the lower row first, or that there is none.
-#[derive(Drop)]
+#[derive(Clone, Copy)]
 pub enum Found {
     Pair { first: u32, second: u32 },
     Nothing,

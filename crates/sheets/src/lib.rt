@@ -1,6 +1,8 @@
 // Not for callers: the tables of a converted text, written into a lent output, and how many bytes they take.
 // Relies on `tags` and `attributes` for the rows of the text, on `layout` for the shape, on `file` for numbers in a
 // file and on the definitions of `model`; its laws on those of `encoding` and `standing`. Called by `convert`.
+#![tactic(auto)]
+
 ghost use Rattle.std.specs.Prelude.{◌+◌, ◌*◌, ◌≤◌, ◌<◌, ◌^◌, ◌≡◌, ◌++◌, length, get_or, take, drop};
 ghost use Rattle.std.proofs.lemmas.List.Edits.{sets};
 ghost use Rattle.columns.specs.Bound.{column_bound};

@@ -5,6 +5,8 @@
 // Relies on `evidence` for the sides that a target allows, on `presence` for the backed lefts, on `keys` and `scan` for
 // the agree sets that occur, on `entries` for entries in bytes, on `planes` and `marks` for the planes, on `table` for
 // the right that a bit stands for, and on `layout` for how many rows and columns there are. Called by `verify`.
+#![tactic(auto)]
+
 ghost use Rattle.std.specs.Prelude.{ℕ, ◌+◌, ◌*◌, ◌≤◌, ◌<◌, ◌≡◌, true, ◌↔◌, length};
 ghost use Rattle.columns.specs.Bound.{column_bound};
 ghost use Rattle.model.specs.Bounds.{row};

@@ -3,3 +3,4 @@
 // shape; and what these tables hold is sound: how many rows, their codes, their parent rows.
 // Relies on the definitions of `model` and its laws on accepted catalogues. Cited by `numerals`, `grammar`, `sheets`
 // and `conversion`.
+#![tactic(auto)]

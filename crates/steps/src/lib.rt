@@ -3,6 +3,8 @@
 // Relies on `walk` for going from set to set, on `passing` for the walk's type, on `table` for the right that a bit
 // stands for, on `grounds` for the check's grounds, on `layout` for the number of sets and on `refusals` for the
 // refusal that has a number and for the work words. Called by `listing`.
+#![tactic(auto)]
+
 mod put;
 
 ghost use Rattle.model.specs.Check.{check_code, Accepted};
@@ -20,7 +22,7 @@ use walk::locate::first;
 use walk::onward::{onward, pass_first};
 
 // What comes next: an entry to put and the walk after it, or the answer.
-#[derive(Drop)]
+#[derive(Clone, Copy)]
 pub enum Stepped {
     Put(Entry, Walk),
     Done(ListAnswer),

@@ -4,6 +4,8 @@
 // the right that a bit stands for.
 // Relies on the definitions of `model` and `columns`, and on `filled` for words that are rewritten in a run. Called
 // by `planes`, `partition`, `rights`, `steps`, `soundness` and `coverage`.
+#![tactic(auto)]
+
 ghost use Rattle.std.specs.Prelude.{ℕ, ◌+◌, ◌%◌, ◌^◌, ◌≤◌, ◌<◌, ◌≡◌, ◌↔◌, length};
 ghost use Rattle.columns.specs.Set.{bit};
 ghost use Rattle.model.specs.Rights.{right_at};

@@ -1,5 +1,7 @@
 // Not for callers: the tags of a supplier's text one after the other, and how many there are of each table.
 // Relies on `attributes` for numbers in a text and on the definitions of `model`. Called by `sheets` and `convert`.
+#![tactic(auto)]
+
 ghost use Rattle.std.specs.Prelude.{◌+◌, ◌≤◌, ◌<◌, ◌^◌, ◌≡◌, get_or, length};
 ghost use Rattle.model.specs.Bounds.{table_bound};
 ghost use Rattle.model.specs.Convert.{tags_in};

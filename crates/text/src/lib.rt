@@ -1,6 +1,8 @@
 // Not for callers: what the programs print: words, decimal numbers and entries, put into lent bytes at a position and
 // written to standard output in one go. Each answers the position behind what it put; what does not fit is left out.
 // Relies on the types of `model` and on `io` for digits. Called by the programs, and by `page_lines` and `pages`.
+#![tactic(auto)]
+
 ghost use Rattle.std.specs.Prelude.{◌≡◌, [], ◌∷◌, length};
 ghost use Rattle.columns.specs.Test.{if_le};
 ghost use Rattle.model.specs.Text.{decimal, right_text, entry_text};
@@ -64,7 +66,7 @@ pub fn put_entry(out: &mut [u8], at: usize, e: Entry) -> usize
 }
 
 // What was handed to standard output: how many bytes, and whether all of them were taken.
-#[derive(Drop)]
+#[derive(Clone, Copy)]
 pub struct Written {
     pub bytes: usize,
     pub taken: bool,

@@ -3,6 +3,8 @@
 // nothing but that it is safe and ends: what the trials printed is compared with what they should.
 // Relies on `text` for entries, on `refusals` for the numbers of refusals and on `columns` for sets. Called by the
 // trial programs.
+#![tactic(auto)]
+
 mod album;
 mod build;
 mod line;

@@ -1,4 +1,6 @@
 // Runs the boundary cases of the check and of the listing call through the compiled calls, and prints what came back.
+#![tactic(auto)]
+
 mod print;
 mod sizes;
 mod steps;

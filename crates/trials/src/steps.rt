@@ -8,7 +8,7 @@ const LAST: u32 = 10;
 
 // How a listing in steps ended: the place held, how many calls were answered, how many entries are joined, and the
 // number of the refusal that ended it, or 0.
-#[derive(Drop)]
+#[derive(Clone, Copy)]
 struct Joined {
     place: u32,
     calls: u32,

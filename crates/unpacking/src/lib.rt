@@ -3,6 +3,8 @@
 // room for.
 // Relies on the definitions of `model`, on `file` for numbers in a file and on `entries` for the entries. Called by
 // `packed`.
+#![tactic(auto)]
+
 ghost use Rattle.std.specs.Prelude.{◌+◌, ◌-◌, ◌*◌, ◌<◌, ◌^◌, ◌≡◌, length};
 ghost use Rattle.model.specs.Entries.{entry_bytes};
 ghost use Rattle.model.specs.Reading.{count_in, distance_in, read_at};
@@ -96,7 +98,7 @@ pub fn front_by(file: &[u8], answer: OpenAnswer) -> &[u8]
 }
 
 // What a call reads: how many entries, where the first of them begins, and the answer.
-#[derive(Drop)]
+#[derive(Clone, Copy)]
 pub struct Plan {
     pub count: usize,
     pub first: usize,

@@ -5,6 +5,8 @@
 // `coverage` for the records, entries and sets of one target, on `layout` for how many tables there are, and on
 // `refusals` for the refusal that has a number. `acceptance` has the theorems about what it accepts. Called by hosts
 // and programs.
+#![tactic(auto)]
+
 ghost use Rattle.std.specs.Prelude.{◌+◌, ◌*◌, ◌≤◌, ◌≡◌, true, ◌↔◌, length};
 ghost use Rattle.model.specs.Check.{Accepted};
 ghost use Rattle.model.specs.Entries.{entry_bytes, entries_from};

@@ -14,7 +14,7 @@ use columns::{ColumnSet, SetOrNone};
 use passing::{Held, Walk};
 
 // A target, and an index in the order of its sets.
-#[derive(Drop)]
+#[derive(Clone, Copy)]
 pub struct Spot {
     pub target: u32,
     pub index: u32,
