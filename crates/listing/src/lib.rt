@@ -36,7 +36,7 @@ pub fn list(cat: &[u8], place: u32, budget: u32, run: &mut [Entry], work: &mut [
 pub const RUN_BOUND: usize = 65536;
 
 // What a listing call answers, and its run.
-#[derive(Drop)]
+#[derive(Clone, Copy)]
 pub struct Filled {
     pub answer: ListAnswer,
     pub run: [Entry; RUN_BOUND],

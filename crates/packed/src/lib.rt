@@ -56,7 +56,7 @@ pub fn front(file: &[u8]) -> &[u8]
 
 // A reading of a packed list, entry by entry over the lent file: the file, the position of the entry that comes next,
 // and what `open` answers.
-#[derive(Drop)]
+#[derive(Clone, Copy)]
 pub struct Reader<'a> {
     list: &'a [u8],
     at: u32,
