@@ -1,0 +1,28 @@
+-- The answers of `classes::number_member`.
+use Prim.Native.Nat.{◌-◌}
+use mathlib.Core.Logic.{inl, inr}
+use mathlib.Core.Path.{refl}
+use native.Mathlib.Omega.{arith}
+use Rattle.classes.proofs.Classes.{only_same, only_then, numbering_none, numbering_all}
+use Rattle.classes.proofs.number_member.Goals as goal
+
+pub loop-q-init : goal.loop-q-init
+loop-q-init c = (omega arith, only_same _ _, numbering_none _ _ _ c.requires.2)
+
+pub number_row-count-requires : goal.number_row-count-requires
+number_row-count-requires c =
+    let h = c.requires in
+    ((h.0, omega (arith, h.1)), c.loop-q.invariant.2)
+
+pub returns-then-count-eq0 : goal.returns-then-count-eq0
+returns-then-count-eq0 c = (only_then c.loop-q.invariant.1 c.number_row-count.ensures.only_member, inl refl)
+
+pub loop-q-preserved : goal.loop-q-preserved
+loop-q-preserved c =
+    let f = c.number_row-count.ensures in
+    (omega arith, only_then c.loop-q.invariant.1 f.0, f.1 (omega arith))
+
+pub returns : goal.returns
+returns c =
+    let l = c.loop-q.invariant in
+    (l.1, inr (c.power.ensures, numbering_all (omega arith) l.2))

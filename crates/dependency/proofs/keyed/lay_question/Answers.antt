@@ -1,0 +1,11 @@
+-- `dependency::lay_question` meets its contract.
+use Rattle.dependency.proofs.Members.{posed_bound, posed_keyed}
+use Rattle.dependency.proofs.keyed.lay_question.Goals as goal
+
+pub members_of-requires : goal.members_of-requires
+members_of-requires c = posed_bound c.requires.posed
+
+pub returns : goal.returns
+returns c =
+    posed_keyed c.requires.posed c.members_of.ensures
+    c.lay.ensures.1

@@ -1,0 +1,42 @@
+-- The answers of `marks::all_covered`.
+use Prim.Native.Nat.{ℕ, ◌-◌}
+use native.Mathlib.Omega.{arith}
+use lib.Pow.{pow_mono}
+use Rattle.filled.proofs.Below.{below_more}
+use Rattle.marks.specs.Marks.{CoveredBy}
+use Rattle.evidence.proofs.Answers.{says_yes, says_no, said_yes, said_no}
+use Rattle.marks.proofs.all_covered.Goals as goal
+
+pub loop-x-init : goal.loop-x-init
+loop-x-init c = (omega arith, λ q l. absurd (omega arith))
+
+pub is_covered-requires : goal.is_covered-requires
+is_covered-requires c =
+    let s = c.before.before.before.before.before.before.before.before in
+    let h = pow_mono {i = s.args.n} {j = s.args.m} (omega arith) in
+    let e = c.power-end.ensures in
+    (s.requires.0, s.requires.1, s.requires.2, s.requires.3, omega arith, omega arith)
+
+pub returns-then-not-is_covered : goal.returns-then-not-is_covered
+returns-then-not-is_covered c =
+    says_no (λ f. said_no c.is_covered.ensures c.if-not-is_covered.true
+    (f _ (omega (arith, c.power-end.ensures))))
+
+pub loop-x-smaller : goal.loop-x-smaller
+loop-x-smaller c = omega arith
+
+pub loop-x-preserved : goal.loop-x-preserved
+loop-x-preserved c =
+    let s = c.before.before.before.before.before.before.before.before.before.before in
+    let x = c.loop-x.x in
+    let Covers : ℕ → Type 0 =
+    CoveredBy s.args.backed.now s.args.keys.now s.args.lefts.now s.args.sets.now s.args.m
+    s.args.a in (
+      omega arith,
+      below_more {P = Covers} c.loop-x.invariant.1
+          (said_yes {P = Covers x} c.is_covered.ensures c.if-not-is_covered.false),
+    )
+
+pub returns : goal.returns
+returns c =
+    says_yes (λ x l. c.loop-x.invariant.1 x (omega (arith, c.power-end.ensures)))

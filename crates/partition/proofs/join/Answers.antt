@@ -1,0 +1,38 @@
+-- The answers of `partition::join`.
+use Prim.Native.Nat.{ℕ, ◌-◌, ◌≤◌, ◌<◌}
+use mathlib.Core.List.{List}
+use native.Mathlib.Omega.{arith}
+use lib.ListN.{get_or, length-replicate}
+use Rattle.model.specs.Bounds.{row_bound}
+use Rattle.leaders.specs.Keys.{key_at}
+use Rattle.filled.specs.Filled.{Filled}
+use Rattle.filled.proofs.Below.{below_more}
+use Rattle.filled.proofs.Filled.{filled_none, filled_more, filled_first}
+use Rattle.partition.specs.Partition.{key_bound, leader_word}
+use Rattle.partition.proofs.Leading.{led_joined}
+use Rattle.partition.proofs.join.Goals as goal
+
+-- the words of the rows below q are made, and their keys are short
+record WordsBelow (keys : List ℕ) (k end : ℕ) (leaders before ws : List ℕ) (q : ℕ) : Type 0 where
+  pub within : q ≤ end
+  pub words : Filled 0 q (λ i. leader_word (get_or leaders i 0) (key_at keys k i)) before ws
+  pub small : (i : ℕ) → i < q → key_at keys k i < key_bound
+
+pub loop-q-init : goal.loop-q-init
+loop-q-init c = record { within = omega arith; words = filled_none; small = λ i l. absurd (omega arith) }
+
+pub loop-q-preserved : goal.loop-q-preserved
+loop-q-preserved c =
+    let f = c.loop-q.invariant in
+    record {
+      within = omega arith;
+      words = filled_more f.words-1 (omega arith) (omega arith) (omega (arith, length-replicate {A = ℕ} row_bound 0))
+          c.word.ensures.1;
+      small = below_more f.small c.word.ensures.0;
+    }
+
+pub returns : goal.returns
+returns c =
+    let f = c.loop-q.invariant in
+    λ x s i led. led_joined _ _ x _ _ s led _ _ _ i
+    (λ q l. (f.small q (omega arith), filled_first f.words-1 q (omega arith))) c.group.ensures

@@ -1,0 +1,12 @@
+-- `rights::prepare` meets its contract.
+use native.Mathlib.Omega.{arith}
+use lib.Pow.{pow_pos}
+use Rattle.rights.proofs.prepare.Goals as goal
+
+pub enter-requires : goal.enter-requires
+enter-requires c =
+    let s = c.before.before.before.before in
+    (s.requires.accepted, (s.requires.target_bound, (pow_pos _, s.requires.work_bound_in_bounds)))
+
+pub returns : goal.returns
+returns c = c.enter.ensures.ready (λ one. omega arith)

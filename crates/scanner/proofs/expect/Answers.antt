@@ -1,0 +1,17 @@
+-- `scanner::expect` meets its contract.
+use mathlib.Core.Path.{refl}
+use Rattle.columns.proofs.Test.{is_if_eq, is_if_ne, is_if_lt, is_if_not_lt}
+use Rattle.model.specs.Form.{expect}
+use Rattle.scanner.proofs.expect.Goals as goal
+
+pub returns-then-s-p : goal.returns-then-s-p
+unfolding expect
+returns-then-s-p c = is_if_not_lt _ c.if-s-p.true refl
+
+pub returns-then-s-p-2 : goal.returns-then-s-p-2
+unfolding expect
+returns-then-s-p-2 c = is_if_lt _ c.if-s-p.false (is_if_ne _ c.if-s-p-2.true refl)
+
+pub returns : goal.returns
+unfolding expect
+returns c = is_if_lt _ c.if-s-p.false (is_if_eq _ c.if-s-p-2.false refl)

@@ -1,0 +1,40 @@
+-- `scanner::numeral_at` meets its contract.
+use mathlib.Core.Path.{refl, sym, ◌∙◌}
+use native.Mathlib.Omega.{arith}
+use Rattle.columns.proofs.Test.{is_if_eq, is_if_ne}
+use Rattle.model.specs.Form.{numeral_at}
+use Rattle.scanner.proofs.Progress.{digits_on}
+use Rattle.scanner.proofs.numeral_at.Goals as goal
+
+pub returns-then-end-p : goal.returns-then-end-p
+unfolding numeral_at
+returns-then-end-p c = is_if_eq _ (sym c.digits_end-end.ensures ∙ c.if-end-p.true) refl
+
+pub returns-then-byte_at-ne48 : goal.returns-then-byte_at-ne48
+unfolding numeral_at
+returns-then-byte_at-ne48 c =
+    let e = c.digits_end-end.ensures in
+    is_if_ne _ (λ z. c.if-end-p.false (e ∙ z))
+    (is_if_ne _ (λ z. c.if-byte_at-ne48.true (c.before.byte_at_lem.ensures ∙ z)) e)
+
+pub overflow_add-p : goal.overflow_add-p
+overflow_add-p c =
+    let a = c.args in
+    let e = c.digits_end-end.ensures in
+    omega (arith, digits_on a.s.now a.p (λ z. c.if-end-p.false (e ∙ z)))
+
+pub returns-then-end-p-2 : goal.returns-then-end-p-2
+unfolding numeral_at
+returns-then-end-p-2 c =
+    let e = c.digits_end-end.ensures in
+    is_if_ne _ (λ z. c.if-end-p.false (e ∙ z))
+    (is_if_eq _ (sym c.before.before.byte_at_lem.ensures ∙ c.if-byte_at-ne48.false)
+    (is_if_ne _ (λ z. c.if-end-p-2.true (e ∙ z)) refl))
+
+pub returns : goal.returns
+unfolding numeral_at
+returns c =
+    let e = c.digits_end-end.ensures in
+    is_if_ne _ (λ z. c.if-end-p.false (e ∙ z))
+    (is_if_eq _ (sym c.before.before.byte_at_lem.ensures ∙ c.if-byte_at-ne48.false)
+    (is_if_eq _ (sym e ∙ c.if-end-p-2.false) c.if-end-p-2.false))

@@ -1,0 +1,102 @@
+-- `steps::begin` meets its contract.
+use mathlib.Core.Path.{sym, subst, ◌∙◌}
+use native.Mathlib.Omega.{arith}
+use borrow.Author.Rules.{rules}
+use Rattle.model.specs.Listing.{ordinary}
+use Rattle.model.proofs.Listing.{cells_length}
+use Rattle.grounds.proofs.Sound.{check_code_le}
+use Rattle.walk.specs.Walks.{Passes}
+use Rattle.passing.specs.declared.Reached.{Reached}
+use Rattle.steps.proofs.Begins.{refusal_number, begin_refused, begin_few, begin_past, begin_spent, begin_end}
+use Rattle.steps.proofs.Begins.{begin_short, begin_walks}
+use Rattle.steps.proofs.begin.Goals as goal
+
+pub refusal-requires : goal.refusal-requires
+refusal-requires c = refusal_number _ c.check_code-code.ensures c.if-code-ne0.true
+
+pub returns-then-code-ne0 : goal.returns-then-code-ne0
+returns-then-code-ne0 c =
+    begin_refused _ _ _ _ _ _ _ _ c.check_code-code.ensures c.if-code-ne0.true c.refusal.ensures
+    (omega (
+      arith,
+      c.check_code-code.ensures,
+      check_code_le c.args.cat.now,
+    ))
+
+pub returns-then-work-lt-WORK_BOUND : goal.returns-then-work-lt-WORK_BOUND
+returns-then-work-lt-WORK_BOUND c = begin_few _ _ _ _ _ _ (search rules) (search rules)
+
+pub returns-then-last-place : goal.returns-then-last-place
+returns-then-last-place c =
+    let s = c.before.before.before.before.before.before.before.before in
+    begin_past _ _ _ _ _ _ (search rules) (search rules) (omega (arith, cells_length s.args.cat.now))
+
+pub returns-then-budget-eq0 : goal.returns-then-budget-eq0
+returns-then-budget-eq0 c =
+    let s = c.before.before.before.before.before.before.before.before.before.before.before.before.before in
+    begin_spent _ _ _ _ _ _ (search rules) (search rules) (omega (arith, cells_length s.args.cat.now)) _
+    (search rules) (search rules)
+
+pub returns-then-place-last : goal.returns-then-place-last
+returns-then-place-last c =
+    let s = c.before.before.before.before.before.before.before.before.before.before.before.before.before.before in
+    let e = cells_length s.args.cat.now in
+    begin_end _ _ _ _ _ _ (search rules) (search rules) (omega arith) _ (search rules) (omega arith)
+
+pub pass_first-requires : goal.pass_first-requires
+pass_first-requires c =
+    let f = c.before.before in
+    let none = sym f.check_code-code.ensures
+    ∙ f.if-code-ne0.false in
+    let s = c.before.before.before.before.before.before.before.before.before.before.before.before in
+    (none, (c.first-w.ensures s.args.work.now (search rules)).fresh)
+
+pub step-requires : goal.step-requires
+step-requires c =
+    let q = c.before.before.before.before.before.before.before in
+    let f = q.before.before in
+    let none = sym f.check_code-code.ensures
+    ∙ f.if-code-ne0.false in
+    let s = f.before.before.before.before.before.before.before.before.before.before in
+    let h =
+    subst (λ (r : Reached). Passes (ordinary s.args.cat.now) f.first-w.result r q.pass_first.new.work)
+    c.v-1.given.1
+    q.pass_first.ensures in
+    (none, h.0)
+
+pub returns-in-At : goal.returns-in-At
+returns-in-At c =
+    let p = c.before.before.before.before in
+    let q = p.before.before.before.before.before.before in
+    let f = q.before.before in
+    let none = sym f.check_code-code.ensures
+    ∙ f.if-code-ne0.false in
+    let s = f.before.before.before.before.before.before.before.before.before.before in
+    let g = f.first-w.ensures s.args.work.now (search rules) in
+    let h =
+    subst (λ (r : Reached). Passes (ordinary s.args.cat.now) f.first-w.result r q.pass_first.new.work)
+    p.v-1.given.1
+    q.pass_first.ensures in
+    begin_walks _ (ordinary s.args.cat.now) s.args.place s.args.budget s.args.room
+    s.args.work.now none
+    g.fresh.sound.enough f.first-w.result s.args.work.now g p.v-1.given.0.0
+    q.pass_first.new.work h (search rules)
+    c.step.result c.step.new.work c.step.ensures
+
+pub returns-in-Stop : goal.returns-in-Stop
+returns-in-Stop c =
+    let p = c.before.before.before.before.before in
+    let q = p.before.before.before.before in
+    let f = q.before.before in
+    let none = sym f.check_code-code.ensures
+    ∙ f.if-code-ne0.false in
+    let s = f.before.before.before.before.before.before.before.before.before.before in
+    let g = f.first-w.ensures s.args.work.now (search rules) in
+    let h =
+    subst (λ (r : Reached). Passes (ordinary s.args.cat.now) f.first-w.result r q.pass_first.new.work)
+    p.enum_told-1.given.1
+    q.pass_first.ensures in
+    begin_short _ (ordinary s.args.cat.now) s.args.place s.args.budget s.args.room
+    s.args.work.now none
+    g.fresh.sound.enough f.first-w.result s.args.work.now g q.pass_first.new.work h
+    (search rules) _ c.zero_words-in-Stop.ensures

@@ -1,0 +1,31 @@
+-- `steps::put` meets its contract.
+use native.Mathlib.Omega.{arith}
+use borrow.Author.Rules.{rules}
+use Rattle.rights.specs.Rights.{lowest}
+use Rattle.steps.proofs.Putting.{put_lowest, put_power, put_right, put_is}
+use Rattle.steps.proofs.put.put.Goals as goal
+
+pub power-requires : goal.power-requires
+unfolding lowest
+power-requires c =
+    let s = c.before in
+    omega (arith, put_lowest s.args.w s.requires, s.requires.members)
+
+pub overflow_sub-v : goal.overflow_sub-v
+unfolding lowest
+overflow_sub-v c =
+    let s = c.before.before in
+    omega (arith, put_power s.args.w s.requires, c.power.ensures)
+
+pub overflow_cast-result-2 : goal.overflow_cast-result-2
+unfolding lowest
+overflow_cast-result-2 c =
+    let s = c.before.before.before in
+    let h = put_right s.args.w s.requires _ c.right_at-right.ensures in
+    search rules
+
+pub returns : goal.returns
+unfolding lowest
+returns c =
+    let s = c.before.before.before.before in
+    put_is s.args.w s.requires c.right_at-right.ensures c.power.ensures

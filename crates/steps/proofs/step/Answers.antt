@@ -1,0 +1,61 @@
+-- The answers of `steps::step`.
+use mathlib.Core.Path.{subst}
+use native.Mathlib.Omega.{arith}
+use Rattle.model.specs.Listing.{ordinary}
+use borrow.Author.Rules.{rules}
+use Rattle.walk.specs.Walks.{Goes}
+use Rattle.passing.specs.declared.Reached.{Reached}
+use Rattle.steps.proofs.Stepping.{stepping_begun, stepping_on, step_done, puts, step_put}
+use Rattle.steps.proofs.step.Goals as goal
+
+pub loop-v-init : goal.loop-v-init
+loop-v-init c = (c.requires.0, stepping_begun _ _ _ c.requires.1)
+
+pub onward-requires : goal.onward-requires
+onward-requires c =
+    let i = c.loop-v.invariant in
+    (i.0, (i.1.good, omega arith))
+
+pub loop-v-smaller : goal.loop-v-smaller
+loop-v-smaller c =
+    let s = c.before.before.before.before.before.before.before.before.before.before.before.before.before in
+    let l = c.loop-v in
+    let o = c.onward in
+    let g = subst (λ (r : Reached). Goes (ordinary s.args.cat.now) l.v r o.new.1.1.0)
+    c.next-1.given.1 o.ensures in
+    g.2
+
+pub loop-v-preserved : goal.loop-v-preserved
+loop-v-preserved c =
+    let s = c.before.before.before.before.before.before.before.before.before.before.before.before.before in
+    let l = c.loop-v in
+    let o = c.onward in
+    let g = subst (λ (r : Reached). Goes (ordinary s.args.cat.now) l.v r o.new.1.1.0)
+    c.next-1.given.1 o.ensures in
+    (l.invariant.0, stepping_on _ _ _ _ _ l.invariant.1 c.next-1.given.0.0 o.new.1.1.0 g (search rules))
+
+pub shape_of-work-in-Stop : goal.shape_of-work-in-Stop
+shape_of-work-in-Stop c =
+    omega (
+      arith,
+      c.loop-v.invariant.1.length,
+    )
+
+pub returns-in-Stop : goal.returns-in-Stop
+returns-in-Stop c =
+    let t = c.before.before.before.before.before in
+    let l = t.loop-v in
+    let s = t.before.before.before.before.before.before.before.before.before.before.before in
+    let o = t.onward in
+    let g = subst (λ (r : Reached). Goes (ordinary s.args.cat.now) l.v r o.new.1.1.0)
+    t.enum_told-1.given.1 o.ensures in
+    step_done _ _ _ _ _ l.invariant.1 o.new.1.1.0 g _ c.zero_words.ensures (search rules)
+
+pub put-requires : goal.put-requires
+put-requires c = puts _ _ _ _ _ c.loop-v.invariant.1 (omega arith)
+
+pub shape_of-work : goal.shape_of-work
+shape_of-work c = c.loop-v.invariant.1.length
+
+pub returns : goal.returns
+returns c = step_put _ _ _ _ _ c.loop-v.invariant.1 _ c.put.ensures (omega arith)

@@ -1,0 +1,51 @@
+-- `walk::following` meets its contract.
+use mathlib.Core.Path.{◌≡◌, refl, sym, subst, ◌∙◌}
+use native.Mathlib.Omega.{arith}
+use Rattle.model.specs.Listing.{ordinary}
+use borrow.Author.Rules.{rules}
+use Rattle.columns.specs.Order.{next_of}
+use Rattle.columns.specs.Set.{members_of}
+use Rattle.columns.specs.declared.SetOrNone.TheVariants.{Set, Nothing}
+use Rattle.model.proofs.Check.{accepted_tables}
+use Rattle.passing.specs.declared.Walk.{Walk}
+use Rattle.walk.specs.Walks.{After}
+use Rattle.walk.proofs.Walks.{good_target, follow_within, follow_target, follow_none}
+use Rattle.walk.proofs.onward.following.Goals as goal
+
+pub overflow_add-target : goal.overflow_add-target
+overflow_add-target c =
+    let s = c.before.before.before.before.before.before.before in
+    omega (
+      arith,
+      good_target (ordinary s.args.cat.now) s.args.w s.args.work.now s.requires.good s.requires.pending_value,
+      accepted_tables s.args.cat.now s.requires.accepted,
+    )
+
+pub returns-then-n-target : goal.returns-then-n-target
+returns-then-n-target c =
+    let s = c.before.before.before.before.before.before.before.before.before in
+    let e : next_of s.args.w.members (members_of s.args.w.left) ≡ Nothing =
+    sym c.next.ensures ∙ c.enum_told-1.given.1 in
+    follow_none (ordinary s.args.cat.now) s.args.w s.args.work.now s.requires.good s.requires.pending_value
+    s.args.work.now e (omega arith)
+
+pub returns-in-Set : goal.returns-in-Set
+returns-in-Set c =
+    let s = c.before.before.before.before.before.before.before in
+    let e : next_of s.args.w.members (members_of s.args.w.left) ≡ Set c.s-1.given.0.0 =
+    sym c.next.ensures ∙ c.s-1.given.1 in
+    follow_within (ordinary s.args.cat.now) s.args.w s.args.work.now s.requires.good s.requires.pending_value
+    c.s-1.given.0.0 s.requires.budget_nonzero e
+
+pub returns-else-n-target : goal.returns-else-n-target
+returns-else-n-target c =
+    let v = c.before.before.before in
+    let s = v.before.before.before.before.before.before.before.before.before.before.before.before in
+    let l = ordinary s.args.cat.now in
+    let p = v.prepare-entered in
+    let e : next_of s.args.w.members (members_of s.args.w.left) ≡ Nothing =
+    sym v.next.ensures
+    ∙ v.enum_told-1.given.1 in
+    subst (λ (u : Walk). After l s.args.w u p.new.1.1.0) (sym c.entering.ensures)
+    (follow_target l s.args.w s.args.work.now s.requires.good s.requires.pending_value _ _ _ _ p.new.1.1.0
+    s.requires.budget_nonzero e refl (omega arith) c.visible-members.ensures p.ensures (search rules))

@@ -1,0 +1,83 @@
+-- `walk::pass_first` meets its contract.
+use mathlib.Core.Path.{refl}
+use native.Mathlib.Omega.{arith}
+use Rattle.model.specs.Listing.{ordinary}
+use Rattle.walk.proofs.Walks.{fresh_target, fresh_left, fresh_inside, fresh_passable, passes_by}
+use Rattle.walk.proofs.Walks.{entered_fresh, entered_ready, entered_passes}
+use borrow.Author.Rules.{rules}
+use Rattle.walk.proofs.onward.pass_first.Goals as goal
+
+pub alone-mask-requires : goal.alone-mask-requires
+alone-mask-requires c =
+    let s = c.before.before.before.before.before.before in
+    let l = ordinary s.args.cat.now in (
+      s.requires.accepted,
+      (
+        fresh_target l s.args.w s.args.work.now s.requires.fresh,
+        (fresh_left l s.args.w s.args.work.now s.requires.fresh, s.requires.fresh.sound.enough),
+      ),
+    )
+
+pub passed-requires : goal.passed-requires
+passed-requires c =
+    let s = c.before.before.before.before.before.before.before.before.before in
+    fresh_passable (ordinary s.args.cat.now) s.args.w s.args.work.now s.requires.fresh _
+    c.alone-mask.ensures
+
+pub returns-then-w-eq1 : goal.returns-then-w-eq1
+returns-then-w-eq1 c =
+    let s = c.before.before.before.before.before.before.before.before.before.before in
+    passes_by (ordinary s.args.cat.now) s.args.w s.args.work.now s.requires.fresh _
+    c.alone-mask.ensures _
+    (λ some. absurd (omega (arith, c.if-w-eq1.true))) (search rules)
+    c.passed.result c.passed.ensures
+
+pub prepare-entered-requires : goal.prepare-entered-requires
+prepare-entered-requires c =
+    let s = c.before.before.before.before.before.before in (
+      s.requires.accepted,
+      (
+        fresh_target (ordinary s.args.cat.now) s.args.w s.args.work.now s.requires.fresh,
+        s.requires.fresh.sound.enough,
+      ),
+    )
+
+pub rights-mask-requires : goal.rights-mask-requires
+rights-mask-requires c =
+    let s = c.before.before.before.before.before.before.before.before.before.before.before in
+    let l = ordinary s.args.cat.now in
+    let v = c.entering-v.result in
+    let p = c.prepare-entered in
+    let e = entered_fresh l s.args.w s.args.work.now s.requires.fresh c.entering-v.ensures in
+    let f = e s.args.work.now refl in (
+      s.requires.accepted,
+      (
+        fresh_target l v s.args.work.now f,
+        (
+          (f.sound.members, fresh_inside l v s.args.work.now f),
+          entered_ready l s.args.w s.args.work.now s.requires.fresh c.entering-v.ensures p.ensures,
+        ),
+      ),
+    )
+
+pub passed-requires-2 : goal.passed-requires-2
+passed-requires-2 c =
+    let s = c.before.before.before.before.before.before.before.before.before.before.before.before.before.before in
+    let l = ordinary s.args.cat.now in
+    let e = c.entering-v in
+    fresh_passable l e.result s.args.work.now
+    (entered_fresh l s.args.w s.args.work.now s.requires.fresh e.ensures s.args.work.now refl) _
+    c.rights-mask.ensures.value
+
+pub returns : goal.returns
+returns c =
+    let s =
+    c.before.before.before.before.before.before.before.before.before.before.before.before.before.before.before in
+    let l = ordinary s.args.cat.now in
+    let words = s.args.work.now in
+    let e = c.entering-v in
+    let r = c.rights-mask in
+    entered_passes l s.args.w words s.pre.1 e.ensures c.passed-2.result r.new.1.1.1.1.1.1.0
+    (passes_by l e.result words (entered_fresh l s.args.w words s.pre.1 e.ensures words refl) _
+    r.ensures.0 _
+    (λ some. r.ensures.1) (search rules) c.passed-2.result c.passed-2.ensures)
