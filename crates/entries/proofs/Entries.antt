@@ -1,7 +1,7 @@
 -- Entries one after the other: what is written is read back behind any bytes; what is read, written, is the bytes
 -- that stand there; and the entry at a position of the entries read is the one at that place of the bytes.
 use Prim.Native.Nat.{ℕ, zero, suc, ◌+◌, ◌-◌, ◌*◌, ◌≤◌, ◌<◌}
-use mathlib.Core.Path.{◌≡◌, refl, sym, ap, ◌∙◌}
+use mathlib.Core.Path.{◌≡◌, refl, sym, ap, ◌∙◌, ap₂}
 use mathlib.Core.List.{List, [], ◌∷◌, ◌++◌, append_assoc}
 use native.Mathlib.Nat.{add_assoc}
 use native.Mathlib.Omega.{arith}
@@ -37,11 +37,10 @@ unfolding entries_from entries_bytes
 entries_back [] ys s = refl
 entries_back (e ∷ es) ys s =
     rw (append_assoc (bytes_of e) (entries_bytes es) ys)
-    (cc (
-      entry_back e (entries_bytes es ++ ys) s.0,
-      next_entries e (entries_bytes es ++ ys) (length es),
-      entries_back es ys s.1,
-    ))
+    (ap₂
+    (λ (x : Entry) (xs : List Entry). x ∷ xs)
+    (entry_back e (entries_bytes es ++ ys) s.0)
+    (next_entries e (entries_bytes es ++ ys) (length es) ∙ entries_back es ys s.1))
 
 -- what is read, written
 pub entries_forth : (file : List ℕ) (n i : ℕ) → Bytes file → i + entry_bytes * n ≤ length file

@@ -12,10 +12,16 @@ loop-q-init c = (omega arith, only_same _ _, numbering_none _ _ _ c.requires.2)
 pub number_row-count-requires : goal.number_row-count-requires
 number_row-count-requires c =
     let h = c.requires in
-    ((h.0, omega (arith, h.1)), c.loop-q.invariant.2)
+    record {
+      k_lt_column_bound = (h.0, omega (arith, h.1));
+      numbering = c.loop-q.invariant.2;
+    }
 
 pub returns-then-count-eq0 : goal.returns-then-count-eq0
-returns-then-count-eq0 c = (only_then c.loop-q.invariant.1 c.number_row-count.ensures.only_member, inl refl)
+returns-then-count-eq0 c = record {
+      only_member = only_then c.loop-q.invariant.1 c.number_row-count.ensures.only_member;
+      member_numbered = inl refl;
+    }
 
 pub loop-q-preserved : goal.loop-q-preserved
 loop-q-preserved c =
@@ -25,4 +31,7 @@ loop-q-preserved c =
 pub returns : goal.returns
 returns c =
     let l = c.loop-q.invariant in
-    (l.1, inr (c.power.ensures, numbering_all (omega arith) l.2))
+    record {
+      only_member = l.1;
+      member_numbered = inr (c.power.ensures, numbering_all (omega arith) l.2);
+    }

@@ -7,16 +7,16 @@ use Rattle.classes.proofs.number_row.Goals as goal
 pub returns-then-p-q : goal.returns-then-p-q
 returns-then-p-q c =
     let h = c.requires in
-    let p = c.row_of-p in (
-      only_set _ _ _ _ h.0.1,
-      λ _. numbered_as h.0.0 h.0.1 p.result (omega arith) (sym p.ensures)
-          (sym c.row_of.ensures ∙ c.if-row_of-p.false) h.1,
-    )
+    let p = c.row_of-p in record {
+      only_member = only_set _ _ _ _ h.0.1;
+      numbering_2 = λ _. numbered_as h.0.0 h.0.1 p.result (omega arith) (sym p.ensures)
+          (sym c.row_of.ensures ∙ c.if-row_of-p.false) h.1;
+    }
 
 pub returns : goal.returns
 returns c =
-    let h = c.requires in (
-      only_set _ _ _ _ h.0.1,
-      λ _. numbered_next h.0.0 h.0.1 (omega arith)
-          (sym c.row_of-p.ensures ∙ c.if-p-q.false) h.1,
-    )
+    let h = c.requires in record {
+      only_member = only_set _ _ _ _ h.0.1;
+      numbering_2 = λ _. numbered_next h.0.0 h.0.1 (omega arith)
+          (sym c.row_of-p.ensures ∙ c.if-p-q.false) h.1;
+    }

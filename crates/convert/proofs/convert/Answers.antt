@@ -26,10 +26,10 @@ returns-then-code-ne0 c =
     let a = c.args in
     let n = c.if-code-ne0.true in
     let e = convert_first a.shape.now a.text.now (length a.out-1.now)
-    c.text_code-code.ensures n in (
-      reply_refused _ (c.refusal.ensures ∙ e) (λ z. n (sym c.refusal.ensures ∙ z)),
-      output_kept _ _ _ (λ z. n (e ∙ z)),
-    )
+    c.text_code-code.ensures n in record {
+      result_value = reply_refused _ (c.refusal.ensures ∙ e) (λ z. n (sym c.refusal.ensures ∙ z));
+      out_after = output_kept _ _ _ (λ z. n (e ∙ z));
+    }
 
 pub full_code-full-requires : goal.full_code-full-requires
 full_code-full-requires c =
@@ -56,10 +56,10 @@ returns-then-full-ne0 c =
     let ok = text_accepted a.shape.now a.text.now fit in
     let n = c.if-full-ne0.true in
     let e = convert_second a.shape.now a.text.now (length a.out-1.now) fit
-    c.full_code-full.ensures in (
-      reply_refused _ (c.refusal-then-full-ne0.ensures ∙ e) (λ z. n (sym c.refusal-then-full-ne0.ensures ∙ z)),
-      output_kept _ _ _ (λ z. n (e ∙ z)),
-    )
+    c.full_code-full.ensures in record {
+      result_value = reply_refused _ (c.refusal-then-full-ne0.ensures ∙ e) (λ z. n (sym c.refusal-then-full-ne0.ensures ∙ z));
+      out_after = output_kept _ _ _ (λ z. n (e ∙ z));
+    }
 
 pub size-bytes-requires : goal.size-bytes-requires
 size-bytes-requires c =
@@ -111,7 +111,7 @@ returns c =
     let e = c.size-bytes.ensures
     ∙ size_converted a.shape.now a.text.now k.count_rows-counts.result
     (accepted_tables a.shape.now ok) counted in
-    let z = sym (convert_second a.shape.now a.text.now (length a.out-1.now) fit (sym full)) in (
-      ap (λ n. answered (n ∷ [])) e ∙ reply_answered _ z,
-      output_written a.shape.now a.text.now a.out-1.now z c.write.ensures,
-    )
+    let z = sym (convert_second a.shape.now a.text.now (length a.out-1.now) fit (sym full)) in record {
+      result_value = ap (λ n. answered (n ∷ [])) e ∙ reply_answered _ z;
+      out_after = output_written a.shape.now a.text.now a.out-1.now z c.write.ensures;
+    }

@@ -1,4 +1,6 @@
 -- `convert::text_code` meets its contract: the first ground that is found, in their order.
+use mathlib.Core.Path.{ap}
+use mathlib.Core.Bool.{not}
 use mathlib.Core.Path.{sym, ◌∙◌}
 use native.Mathlib.Omega.{arith}
 use Rattle.model.proofs.Grounds.{is_this, is_next}
@@ -13,7 +15,7 @@ returns-then-not-document c =
     let a = c.args in
     let sound = sym c.check_code-code.ensures ∙ c.if-code-ne0.false in
     is_next _ sound
-    (is_this _ (bad_text_lem a.text.now a.shape.now (not_read _ _ c.document.ensures c.if-not-document.true))
+    (is_this _ (bad_text_lem a.text.now a.shape.now (not_read _ _ c.document.ensures (ap not c.if-not-document.true)))
     (λ z. omega arith))
 
 pub returns-then-unfit-ne0 : goal.returns-then-unfit-ne0
@@ -22,7 +24,7 @@ returns-then-unfit-ne0 c =
     let sound = sym c.check_code-code.ensures
     ∙ c.if-code-ne0.false in
     let form = good_text a.text.now a.shape.now
-    (read_all _ _ c.document.ensures c.if-not-document.false) in
+    (read_all _ _ c.document.ensures (ap not c.if-not-document.false)) in
     is_next _ sound (is_next _ form (shape_rows _ _ c.rows_code-unfit.ensures c.if-unfit-ne0.true))
 
 pub returns-then-not-document-2 : goal.returns-then-not-document-2
@@ -31,10 +33,10 @@ returns-then-not-document-2 c =
     let a = b.args in
     let sound = sym b.check_code-code.ensures ∙ b.if-code-ne0.false in
     let form = good_text a.text.now a.shape.now
-    (read_all _ _ b.document.ensures b.if-not-document.false) in
+    (read_all _ _ b.document.ensures (ap not b.if-not-document.false)) in
     let rows = sym c.rows_code-unfit.ensures ∙ c.if-unfit-ne0.false in
     is_next _ sound
-    (is_next _ form (unfit_text_lem _ _ rows (not_read _ _ c.document-2.ensures c.if-not-document-2.true)))
+    (is_next _ form (unfit_text_lem _ _ rows (not_read _ _ c.document-2.ensures (ap not c.if-not-document-2.true))))
 
 pub returns : goal.returns
 returns c =
@@ -42,7 +44,7 @@ returns c =
     let a = b.args in
     let sound = sym b.check_code-code.ensures ∙ b.if-code-ne0.false in
     let form = good_text a.text.now a.shape.now
-    (read_all _ _ b.document.ensures b.if-not-document.false) in
+    (read_all _ _ b.document.ensures (ap not b.if-not-document.false)) in
     let rows = sym c.rows_code-unfit.ensures ∙ c.if-unfit-ne0.false in
     is_next _ sound
-    (is_next _ form (fit_text _ _ rows (read_all _ _ c.document-2.ensures c.if-not-document-2.false)))
+    (is_next _ form (fit_text _ _ rows (read_all _ _ c.document-2.ensures (ap not c.if-not-document-2.false))))

@@ -1,4 +1,6 @@
 -- The answers of `coverage::target_covered`.
+use mathlib.Core.Path.{ap}
+use mathlib.Core.Bool.{not}
 use Prim.Native.Nat.{◌-◌, ◌≤◌}
 use mathlib.Core.Path.{sym}
 use native.Mathlib.Omega.{arith}
@@ -29,7 +31,11 @@ backed_plane-requires c =
     let n = c.visible-n.ensures in
     let m = c.wide-m.ensures in
     let s = c.before.before.before.before.before.before.before in
-    (s.requires.accepted, (omega (arith, s.requires.target_bound), (n, m.all, blank_room _ m.word (m.few (omega (arith, few s, n))))))
+    record {
+      accepted = s.requires.accepted;
+      target_bound = omega (arith, s.requires.target_bound);
+      n_value = (n, m.all, blank_room _ m.word (m.few (omega (arith, few s, n))));
+    }
 
 pub close_lefts-requires : goal.close_lefts-requires
 close_lefts-requires c =
@@ -78,7 +84,7 @@ returns-then-not-right_covered c =
     v.visible-n.ensures first.inherited-a.ensures _ _ in
     passed_no all (omega arith) c.loop-a.invariant
     (c.right_covered.ensures (view s.args.cat.now s.args.target) (sym v.visible-n.ensures)
-    backed.backed_plane.ensures) c.if-not-right_covered.true
+    backed.backed_plane.ensures) (ap not c.if-not-right_covered.true)
 
 pub overflow_add-a : goal.overflow_add-a
 overflow_add-a c =
@@ -98,7 +104,7 @@ loop-a-preserved c =
     let s = v.before.before.before.before in
     passed_more (omega arith)
     (said_yes (c.right_covered.ensures (view s.args.cat.now s.args.target)
-    (sym v.visible-n.ensures) backed.backed_plane.ensures) c.if-not-right_covered.false)
+    (sym v.visible-n.ensures) backed.backed_plane.ensures) (ap not c.if-not-right_covered.false))
     c.loop-a.invariant
 
 pub returns : goal.returns

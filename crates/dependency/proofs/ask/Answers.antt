@@ -21,7 +21,10 @@ returns-then-code-ne0 c =
     let words =
     words_kept a.cat.now a.target a.left a.right a.work-1.now
     c.question_code-code.ensures c.if-code-ne0.true in
-    (reply, words)
+    record {
+      result_value = reply;
+      work_after = words;
+    }
 
 pub holds-requires : goal.holds-requires
 holds-requires c =
@@ -40,7 +43,10 @@ returns-then-holds c =
     let words =
     words_zeroed a.cat.now a.target a.left a.right a.work-1.now e z
     c.zero_words.ensures in
-    (reply, words)
+    record {
+      result_value = reply;
+      work_after = words;
+    }
 
 pub returns : goal.returns
 returns c =
@@ -53,4 +59,7 @@ returns c =
     let words =
     words_zeroed a.cat.now a.target a.left a.right a.work-1.now e z
     c.zero_words.ensures in
-    (reply, words)
+    record {
+      result_value = reply;
+      work_after = words;
+    }

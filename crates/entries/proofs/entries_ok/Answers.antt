@@ -1,4 +1,6 @@
 -- The answers of `entries::entries_ok`.
+use mathlib.Core.Path.{ap}
+use mathlib.Core.Bool.{not}
 use mathlib.Core.Path.{◌∙◌, sym}
 use native.Mathlib.Omega.{arith}
 use Rattle.entries.proofs.Checks.{bad_at, fine_at, later_at, not_later_at, from_none, first_bad, first_fine}
@@ -12,7 +14,7 @@ pub returns-then-not-entry_ok : goal.returns-then-not-entry_ok
 returns-then-not-entry_ok c =
     first_bad _ _ _ (omega arith)
     (bad_at _ _ c.entry_ok.result c.entry_from-before.ensures c.entry_ok.ensures
-    c.if-not-entry_ok.true)
+    (ap not c.if-not-entry_ok.true))
 
 pub overflow_add-at : goal.overflow_add-at
 overflow_add-at c = omega arith
@@ -24,23 +26,23 @@ pub loop-left-init : goal.loop-left-init
 loop-left-init c = (
   first_fine _ _ _ (omega arith) c.entry_from-before.ensures
       (fine_at _ _ c.entry_ok.result c.entry_from-before.ensures c.entry_ok.ensures
-      c.if-not-entry_ok.false),
+      (ap not c.if-not-entry_ok.false)),
   omega arith,
 )
 
 pub returns-then-not-entry_ok-2 : goal.returns-then-not-entry_ok-2
 returns-then-not-entry_ok-2 c = next_bad _ _ _ _ c.loop-left-test.true
     (bad_at _ _ c.entry_ok-in-loop-left.result c.entry_from-e.ensures c.entry_ok-in-loop-left.ensures
-    c.if-not-entry_ok-2.true)
+    (ap not c.if-not-entry_ok-2.true))
     ∙ sym c.loop-left.invariant.0
 
 pub returns-then-not-earlier : goal.returns-then-not-earlier
 returns-then-not-earlier c = next_not_later _ _ _ _ c.loop-left-test.true
     (fine_at _ _ c.entry_ok-in-loop-left.result
     c.entry_from-e.ensures c.entry_ok-in-loop-left.ensures
-    c.if-not-entry_ok-2.false)
+    (ap not c.if-not-entry_ok-2.false))
     (not_later_at _ _ _ c.entry_from-e.ensures c.earlier.ensures
-    c.if-not-earlier.true)
+    (ap not c.if-not-earlier.true))
     ∙ sym c.loop-left.invariant.0
 
 pub overflow_add-at-in-loop-left : goal.overflow_add-at-in-loop-left
@@ -59,9 +61,9 @@ loop-left-preserved c = (
       c.entry_from-e.ensures
       (fine_at _ _ c.entry_ok-in-loop-left.result
       c.entry_from-e.ensures c.entry_ok-in-loop-left.ensures
-      c.if-not-entry_ok-2.false)
+      (ap not c.if-not-entry_ok-2.false))
       (later_at _ _ _ c.entry_from-e.ensures c.earlier.ensures
-      c.if-not-earlier.false),
+      (ap not c.if-not-earlier.false)),
   omega arith,
 )
 

@@ -10,7 +10,11 @@ loop-q-init c = grouping_begun _ _ _ c.requires.end_le_row_bound c.requires.lead
 pub place-followers-requires : goal.place-followers-requires
 place-followers-requires c =
     let g = c.loop-q.invariant in
-    (omega (arith, g.short), (g.chained, g.grouped.long))
+    record {
+      q_lt_row_bound = omega (arith, g.short);
+      chained = g.chained;
+      leaders_len = g.grouped.long;
+    }
 
 pub overflow_add-followers : goal.overflow_add-followers
 overflow_add-followers c =

@@ -9,7 +9,11 @@ use Rattle.grouping.proofs.place.Goals as goal
 pub leader-p-requires : goal.leader-p-requires
 leader-p-requires c =
     let k = c.requires.chained in
-    (search rules, (chained_head k c.chain-h.ensures, k.linked))
+    record {
+      q_lt_row_bound = search rules;
+      last_in = chained_head k c.chain-h.ensures;
+      linked_below = k.linked;
+    }
 
 pub overflow_cast-leaders : goal.overflow_cast-leaders
 overflow_cast-leaders c = let a = c.args in

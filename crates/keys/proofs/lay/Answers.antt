@@ -143,10 +143,10 @@ overflow_sub-above c = omega (arith, left c.before)
 
 pub lay_table-requires : goal.lay_table-requires
 lay_table-requires c =
-    let l = c.before.before.before.before.before.before in (
-      (omega arith, omega (arith, left c.before.before.before, few c.before.before.before), short l, l.loop-reached.invariant.long),
-      within c.before.before.before,
-    )
+    let l = c.before.before.before.before.before.before in record {
+      o_bound = (omega arith, omega (arith, left c.before.before.before, few c.before.before.before), short l, l.loop-reached.invariant.long);
+      by_index = within c.before.before.before;
+    }
 
 pub power-requires : goal.power-requires
 power-requires c = omega (arith, few c.before.before.before.before)
@@ -169,10 +169,10 @@ returns-then-set-power-eq0 c =
 
 pub parent_rows-requires : goal.parent_rows-requires
 parent_rows-requires c =
-    let l = c.before.before.before.before.before.before.before.before.before.before in (
-      (omega (arith, short l), l.loop-reached.invariant.wide),
-      λ q h. omega (arith, within c.before.before.before.before.before.before.before q (omega arith)),
-    )
+    let l = c.before.before.before.before.before.before.before.before.before.before in record {
+      end_le_row_bound = (omega (arith, short l), l.loop-reached.invariant.wide);
+      by_index = λ q h. omega (arith, within c.before.before.before.before.before.before.before q (omega arith));
+    }
 
 pub short_at-requires-in-loop-reached : goal.short_at-requires-in-loop-reached
 short_at-requires-in-loop-reached c =

@@ -19,14 +19,17 @@ loop-j-preserved-then-set-low-eq0 c =
 pub fill_words-requires : goal.fill_words-requires
 fill_words-requires c =
     let h = c.requires in
-    let l = c.loop-j in (
-      (h.0.2, l.invariant.1),
-      λ q m. omega (arith, h.1 q m, l.invariant.0, c.loop-j-test.true),
-    )
+    let l = c.loop-j in record {
+      end_le_row_bound = (h.0.2, l.invariant.1);
+      by_index = λ q m. omega (arith, h.1 q m, l.invariant.0, c.loop-j-test.true);
+    }
 
 pub group-requires : goal.group-requires
 group-requires c =
-    let l = c.before.before.before.before.before.before.before in (l.requires.o_bound.2, l.loop-j.invariant.2)
+    let l = c.before.before.before.before.before.before.before in record {
+      end_le_row_bound = l.requires.o_bound.2;
+      leaders_len = l.loop-j.invariant.2;
+    }
 
 pub put_keys-requires : goal.put_keys-requires
 put_keys-requires c =

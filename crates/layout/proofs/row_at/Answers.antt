@@ -17,4 +17,7 @@ pub returns : goal.returns
 unfolding row_at
 returns c =
     let h = product_small c.args.k c.columns-c.result (search rules) (search rules) in
-    (cc, omega arith)
+    record {
+      is = cc;
+      small = omega arith;
+    }

@@ -5,4 +5,7 @@ use Rattle.layout.proofs.table_end.Goals as goal
 
 pub returns : goal.returns
 unfolding table_end
-returns c = (cc, search rules)
+returns c = record {
+      is = cc;
+      small = search rules;
+    }

@@ -12,20 +12,20 @@ pub returns-then-few-power : goal.returns-then-few-power
 returns-then-few-power c =
     let s = c.before.before.before.before.before.before in
     let a = s.args in
-    let f = c.numbered_line.ensures in (
-      line_all a.keys.now a.bytes.now a.few a.x a.n a.end 0 s.requires.n_le_column_bound.0 (omega arith)
+    let f = c.numbered_line.ensures in record {
+      line_of = line_all a.keys.now a.bytes.now a.few a.x a.n a.end 0 s.requires.n_le_column_bound.0 (omega arith)
           (none_left a.few a.n _ c.power.ensures c.if-few-power.true) s.requires.numbered
-          (line_none a.keys.now a.bytes.now a.few a.x f.0),
-      f.1,
-    )
+          (line_none a.keys.now a.bytes.now a.few a.x f.0);
+      low_len_2 = f.1;
+    }
 
 pub returns : goal.returns
 returns c =
     let s = c.before.before.before.before.before.before.before.before in
     let a = s.args in
-    let f = c.numbered_line.ensures in (
-      line_all a.keys.now a.bytes.now a.few a.x a.n a.end a.n s.requires.n_le_column_bound.0 (le_refl _)
+    let f = c.numbered_line.ensures in record {
+      line_of = line_all a.keys.now a.bytes.now a.few a.x a.n a.end a.n s.requires.n_le_column_bound.0 (le_refl _)
           (λ k l z. l) s.requires.numbered
-          (c.add_wide.ensures a.bytes.now (line_none a.keys.now a.bytes.now a.few a.x f.0)),
-      f.1,
-    )
+          (c.add_wide.ensures a.bytes.now (line_none a.keys.now a.bytes.now a.few a.x f.0));
+      low_len_2 = f.1;
+    }

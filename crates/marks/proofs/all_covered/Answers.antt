@@ -1,4 +1,6 @@
 -- The answers of `marks::all_covered`.
+use mathlib.Core.Path.{ap}
+use mathlib.Core.Bool.{not}
 use Prim.Native.Nat.{ℕ, ◌-◌}
 use native.Mathlib.Omega.{arith}
 use lib.Pow.{pow_mono}
@@ -19,7 +21,7 @@ is_covered-requires c =
 
 pub returns-then-not-is_covered : goal.returns-then-not-is_covered
 returns-then-not-is_covered c =
-    says_no (λ f. said_no c.is_covered.ensures c.if-not-is_covered.true
+    says_no (λ f. said_no c.is_covered.ensures (ap not c.if-not-is_covered.true)
     (f _ (omega (arith, c.power-end.ensures))))
 
 pub loop-x-smaller : goal.loop-x-smaller
@@ -34,7 +36,7 @@ loop-x-preserved c =
     s.args.a in (
       omega arith,
       below_more {P = Covers} c.loop-x.invariant.1
-          (said_yes {P = Covers x} c.is_covered.ensures c.if-not-is_covered.false),
+          (said_yes {P = Covers x} c.is_covered.ensures (ap not c.if-not-is_covered.false)),
     )
 
 pub returns : goal.returns

@@ -1,4 +1,6 @@
 -- The answers of `marks::entries_sound`.
+use mathlib.Core.Path.{ap}
+use mathlib.Core.Bool.{not}
 use native.Mathlib.Omega.{arith}
 use Rattle.evidence.proofs.Lists.{testing_begun, testing_fine, testing_more, testing_failed}
 use Rattle.evidence.proofs.Lists.{testing_done, entries_none, entries_next}
@@ -16,7 +18,7 @@ is_sound-requires c =
 
 pub returns-then-not-is_sound : goal.returns-then-not-is_sound
 returns-then-not-is_sound c =
-    says_no (testing_failed (entries_next _ _ _ (omega arith)) (said_no c.is_sound.ensures c.if-not-is_sound.true)
+    says_no (testing_failed (entries_next _ _ _ (omega arith)) (said_no c.is_sound.ensures (ap not c.if-not-is_sound.true))
     c.loop-rest.invariant.0)
 
 pub loop-rest-smaller : goal.loop-rest-smaller
@@ -24,7 +26,7 @@ loop-rest-smaller c = omega arith
 
 pub loop-rest-preserved : goal.loop-rest-preserved
 loop-rest-preserved c = (
-  testing_more (entries_next _ _ _ (omega arith)) (said_yes c.is_sound.ensures c.if-not-is_sound.false)
+  testing_more (entries_next _ _ _ (omega arith)) (said_yes c.is_sound.ensures (ap not c.if-not-is_sound.false))
       c.loop-rest.invariant.0,
   omega arith,
 )

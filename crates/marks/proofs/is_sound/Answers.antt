@@ -1,4 +1,5 @@
 -- `marks::is_sound` meets its contract.
+use mathlib.Core.Path.{ap}
 use Prim.Native.Nat.{◌^◌, ◌<◌}
 use mathlib.Core.Path.{◌≡◌, sym, subst}
 use mathlib.Core.Logic.{◌↔◌}
@@ -37,20 +38,20 @@ pub returns-then-not-is_for : goal.returns-then-not-is_for
 returns-then-not-is_for c =
     let a = c.args in
     let is = entry_for a.list.now a.at a.target a.right c.is_for.ensures in
-    says_yes (λ i. absurd (said_no is c.if-not-is_for.true i))
+    says_yes (λ i. absurd (said_no is (ap not c.if-not-is_for.true) i))
 
 pub bit_at-requires : goal.bit_at-requires
 bit_at-requires c =
     let read = c.before.before in
     let s = read.before.before.before.before.before.before.before.before in
-    let for = for_two s read.is_for.ensures read.if-not-is_for.false in
+    let for = for_two s read.is_for.ensures (ap not read.if-not-is_for.false) in
     place_inside s.args.m _ _ s.requires.0 (left_below s read.entry_from-e.ensures for)
 
 pub returns-then-bit_at-eq0 : goal.returns-then-bit_at-eq0
 returns-then-bit_at-eq0 c =
     let read = c.before.before.before.before in
     let s = read.before.before.before.before.before.before.before.before in
-    let for = for_two s read.is_for.ensures read.if-not-is_for.false in
+    let for = for_two s read.is_for.ensures (ap not read.if-not-is_for.false) in
     says_no (unbacked_entry s.args.backed.now s.args.broken.now s.args.keys.now s.args.lefts.now
     s.args.m _ _ read.entry_from-e.ensures for c.bit_at.ensures (omega arith))
 
@@ -58,14 +59,14 @@ pub bit_at-requires-2 : goal.bit_at-requires-2
 bit_at-requires-2 c =
     let read = c.before.before.before.before in
     let s = read.before.before.before.before.before.before.before.before in
-    let for = for_two s read.is_for.ensures read.if-not-is_for.false in
+    let for = for_two s read.is_for.ensures (ap not read.if-not-is_for.false) in
     place_inside s.args.m _ _ s.requires.1 (left_below s read.entry_from-e.ensures for)
 
 pub returns-then-bit_at-ne0 : goal.returns-then-bit_at-ne0
 returns-then-bit_at-ne0 c =
     let read = c.before.before.before.before.before.before in
     let s = read.before.before.before.before.before.before.before.before in
-    let for = for_two s read.is_for.ensures read.if-not-is_for.false in
+    let for = for_two s read.is_for.ensures (ap not read.if-not-is_for.false) in
     says_no (broken_entry s.args.backed.now s.args.broken.now s.args.keys.now s.args.lefts.now
     s.args.m _ _ read.entry_from-e.ensures for c.bit_at-2.ensures c.if-bit_at-ne0.true)
 
@@ -73,22 +74,22 @@ pub is_keyless-requires : goal.is_keyless-requires
 is_keyless-requires c =
     let read = c.before.before.before.before.before.before in
     let s = read.before.before.before.before.before.before.before.before in
-    let for = for_two s read.is_for.ensures read.if-not-is_for.false in
+    let for = for_two s read.is_for.ensures (ap not read.if-not-is_for.false) in
     (s.requires.2, left_below s read.entry_from-e.ensures for)
 
 pub returns-then-not-is_keyless : goal.returns-then-not-is_keyless
 returns-then-not-is_keyless c =
     let read = c.before.before.before.before.before.before.before.before in
     let s = read.before.before.before.before.before.before.before.before in
-    let for = for_two s read.is_for.ensures read.if-not-is_for.false in
+    let for = for_two s read.is_for.ensures (ap not read.if-not-is_for.false) in
     says_no (keyed_entry s.args.backed.now s.args.broken.now s.args.keys.now s.args.lefts.now
-    s.args.m _ _ read.entry_from-e.ensures for c.is_keyless.ensures c.if-not-is_keyless.true)
+    s.args.m _ _ read.entry_from-e.ensures for c.is_keyless.ensures (ap not c.if-not-is_keyless.true))
 
 pub is_alone-requires : goal.is_alone-requires
 is_alone-requires c =
     let read = c.before.before.before.before.before.before.before.before in
     let s = read.before.before.before.before.before.before.before.before in
-    let for = for_two s read.is_for.ensures read.if-not-is_for.false in
+    let for = for_two s read.is_for.ensures (ap not read.if-not-is_for.false) in
     (s.requires.3, left_below s read.entry_from-e.ensures for)
 
 pub returns : goal.returns
@@ -96,8 +97,8 @@ returns c =
     let keyless = c.before.before.before in
     let read = keyless.before.before.before.before.before.before in
     let s = read.before.before.before.before.before.before.before.before in
-    let for = for_two s read.is_for.ensures read.if-not-is_for.false in
+    let for = for_two s read.is_for.ensures (ap not read.if-not-is_for.false) in
     unbroken_entry s.args.backed.now s.args.broken.now s.args.keys.now s.args.lefts.now
     s.args.m _ _ read.entry_from-e.ensures for keyless.bit_at.ensures
     (omega arith) keyless.bit_at-2.ensures keyless.if-bit_at-ne0.false
-    keyless.is_keyless.ensures c.if-not-is_keyless.false c.is_alone.ensures
+    keyless.is_keyless.ensures (ap not c.if-not-is_keyless.false) c.is_alone.ensures

@@ -1,4 +1,5 @@
 -- `marks::mark_left` meets its contract.
+use mathlib.Core.Bool.{not}
 use mathlib.Core.Path.{ap, ◌∙◌}
 use native.Mathlib.Omega.{arith}
 use Rattle.model.specs.declared.Entry.{Entry}
@@ -12,14 +13,14 @@ pub returns-then-not-is_for : goal.returns-then-not-is_for
 returns-then-not-is_for c =
     let a = c.args in
     let is = entry_for a.list.now a.at a.target a.right c.is_for.ensures in
-    marked_none _ (λ y w. said_no is c.if-not-is_for.true w.0)
+    marked_none _ (λ y w. said_no is (ap not c.if-not-is_for.true) w.0)
 
 pub mirror-place-requires : goal.mirror-place-requires
 mirror-place-requires c =
     let s = c.before.before.before.before.before.before.before in
     let a = s.args in
     let is = entry_for a.list.now a.at a.target a.right c.is_for.ensures in
-    let l = s.requires.1 (said_yes is c.if-not-is_for.false) in
+    let l = s.requires.1 (said_yes is (ap not c.if-not-is_for.false)) in
     let e = ap (λ (e : Entry). e.left) c.entry_from-e.ensures in
     (s.requires.0.few, omega arith)
 
@@ -29,7 +30,7 @@ mark-requires c =
     let s = read.before.before.before.before.before in
     let a = s.args in
     let is = entry_for a.list.now a.at a.target a.right read.is_for.ensures in
-    let l = s.requires.1 (said_yes is read.if-not-is_for.false) in
+    let l = s.requires.1 (said_yes is (ap not read.if-not-is_for.false)) in
     let e = ap (λ (e : Entry). e.left) read.entry_from-e.ensures in
     place_inside a.m _ _ s.requires.0 (omega (arith, c.mirror-place.ensures))
 
@@ -39,5 +40,5 @@ returns c =
     let a = read.args in
     let is = entry_for a.list.now a.at a.target a.right read.is_for.ensures in
     let e = ap (λ (e : Entry). mirror a.m e.left) read.entry_from-e.ensures in
-    marked_for _ _ _ _ (said_yes is read.if-not-is_for.false) (c.mirror-place.ensures ∙ e)
+    marked_for _ _ _ _ (said_yes is (ap not read.if-not-is_for.false)) (c.mirror-place.ensures ∙ e)
     c.mark.ensures

@@ -1,4 +1,5 @@
 -- `marks::mark_set` meets its contract.
+use mathlib.Core.Bool.{not}
 use mathlib.Core.Path.{ap}
 use native.Mathlib.Omega.{arith}
 use Rattle.model.specs.declared.Evidence.{Evidence}
@@ -11,7 +12,7 @@ pub returns-then-not-is_for : goal.returns-then-not-is_for
 returns-then-not-is_for c =
     let a = c.args in
     let is = record_for a.bytes.now a.at a.target a.right c.is_for.ensures in
-    marked_none _ (λ y w. said_no is c.if-not-is_for.true w.0)
+    marked_none _ (λ y w. said_no is (ap not c.if-not-is_for.true) w.0)
 
 pub mark-requires : goal.mark-requires
 mark-requires c =
@@ -19,7 +20,7 @@ mark-requires c =
     let s = read.before.before.before.before.before in
     let a = s.args in
     let is = record_for a.bytes.now a.at a.target a.right read.is_for.ensures in
-    let l = s.requires.1 (said_yes is read.if-not-is_for.false) in
+    let l = s.requires.1 (said_yes is (ap not read.if-not-is_for.false)) in
     let e = ap (λ (e : Evidence). e.set) read.record_at-e.ensures in
     place_inside a.m _ _ s.requires.0 (omega arith)
 
@@ -28,5 +29,5 @@ returns c =
     let read = c.before.before.before.before.before.before in
     let a = read.args in
     let is = record_for a.bytes.now a.at a.target a.right read.is_for.ensures in
-    marked_for _ _ _ _ (said_yes is read.if-not-is_for.false)
+    marked_for _ _ _ _ (said_yes is (ap not read.if-not-is_for.false))
     (ap (λ (e : Evidence). e.set) read.record_at-e.ensures) c.mark.ensures

@@ -1,4 +1,6 @@
 -- `packing::step` meets its contract, checking and writing.
+use mathlib.Core.Path.{ap}
+use mathlib.Core.Bool.{not}
 use mathlib.Core.Path.{refl}
 use native.Mathlib.Omega.{arith}
 use borrow.Author.Rules.{rules}
@@ -23,7 +25,7 @@ returns-then-not-fine_after c = let a = c.before.before.before.before.before.bef
     let f = c.fine_after in
     record {
       on = λ es o l p on. step_bad es o _ _ _ f.result a.requires.going z f.ensures l p on _
-          c.if-not-fine_after.true c.stopped.ensures.0 c.stopped.ensures.1;
+          (ap not c.if-not-fine_after.true) c.stopped.ensures.0 c.stopped.ensures.1;
       fewer = omega (
         arith,
         a.requires.next,
@@ -38,7 +40,7 @@ returns-then-at-k c = let a = c.before.before.before.before.before.before.before
     let f = c.fine_after in
     record {
       on = λ es o l p on. step_more es o _ _ _ f.result a.requires.going z f.ensures l p on _
-          c.if-not-fine_after.false (omega arith) c.Going-on.ensures.0 c.Going-on.ensures.1
+          (ap not c.if-not-fine_after.false) (omega arith) c.Going-on.ensures.0 c.Going-on.ensures.1
           c.Going-on.ensures.2 c.Going-on.ensures.3;
       fewer = omega (
         arith,
@@ -56,7 +58,7 @@ returns c = let a = c.before.before.before.before.before.before.before.before.be
     let s = c.begin_writing in
     record {
       on = λ es o l p on. step_last es o _ _ _ f.result a.requires.going z f.ensures l p on _ _
-          c.if-not-fine_after.false (omega arith) s.ensures;
+          (ap not c.if-not-fine_after.false) (omega arith) s.ensures;
       fewer =
           omega (arith, a.requires.next, s.ensures.few, steps_checking a.args.k a.args.s a.requires.going z refl);
     }

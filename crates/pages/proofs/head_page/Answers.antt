@@ -36,10 +36,11 @@ given c =
     call.result.answer call.result.run _ call.ensures c.answer-1.given.1
 
 pub count_from-entries-requires : goal.count_from-entries-requires
-count_from-entries-requires c = (
-  c.requires.listable,
-  (search rules, (given c.before).in_range),
-)
+count_from-entries-requires c = record {
+      listable = c.requires.listable;
+      work_bound_in_bounds = search rules;
+      place_le_last = (given c.before).in_range;
+    }
 
 pub put_run-len-requires : goal.put_run-len-requires
 put_run-len-requires c = let g = given c.before.before.before.before.before.before.before.before.before.before in

@@ -33,12 +33,13 @@ pub returns-in-Listed : goal.returns-in-Listed
 returns-in-Listed c =
     let start =
     c.before.before.before.before.before.before.before.before.before.before.before.before.before.before.before in
-    let g = given c.before.before.before.before in (
-      paged_next start.args.cat.now start.args.page.last start.pre.1.0 _ _ _ _ g
+    let g = given c.before.before.before.before in record {
+      text = paged_next start.args.cat.now start.args.page.last start.pre.1.0 _ _ _ _ g
           c.put_run-end.ensures
-          (omega arith),
-      (g.rises (omega arith), refl),
-    )
+          (omega arith);
+      onward = g.rises (omega arith);
+      same = refl;
+    }
 
 pub returns-in-Refused : goal.returns-in-Refused
 returns-in-Refused c =

@@ -31,7 +31,11 @@ returns-then-leaders_of-eq0 c =
 pub given_members-requires : goal.given_members-requires
 given_members-requires c =
     let s = c.before.before.before.before in
-    (s.requires.n_le_column_bound, (s.requires.end_le_row_bound, led_back _ _ _ _ _ _ c.leaders_of.ensures))
+    record {
+      n_le_column_bound = s.requires.n_le_column_bound;
+      end_le_row_bound = s.requires.end_le_row_bound;
+      back = led_back _ _ _ _ _ _ c.leaders_of.ensures;
+    }
 
 pub returns : goal.returns
 returns c =

@@ -31,7 +31,12 @@ short c =
 pub present_set-requires : goal.present_set-requires
 present_set-requires c =
     let h = c.requires in
-    (h.0, (h.1.0, (h.1.1.0, omega (arith, ends c.before.before))))
+    record {
+      accepted = h.0;
+      target_bound = h.1.0;
+      n_value = h.1.1.0;
+      p_bound = omega (arith, ends c.before.before);
+    }
 
 pub offset_bounds-sets-q : goal.offset_bounds-sets-q
 offset_bounds-sets-q c = omega (arith, short c.before.before.before)

@@ -29,7 +29,11 @@ pub backed_plane-requires : goal.backed_plane-requires
 backed_plane-requires c =
     let s = c.before.before.before.before in
     let p = s.requires.n_value in
-    (s.requires.accepted, (s.requires.target_bound, (p.0, omega arith, blank_room s.args.n p.1 (few s))))
+    record {
+      accepted = s.requires.accepted;
+      target_bound = s.requires.target_bound;
+      n_value = (p.0, omega arith, blank_room s.args.n p.1 (few s));
+    }
 
 pub power-m-requires : goal.power-m-requires
 power-m-requires c = omega (arith, few c.before.before.before.before.before.before)

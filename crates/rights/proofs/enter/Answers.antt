@@ -11,65 +11,63 @@ pub minimal_alone-minimal-requires : goal.minimal_alone-minimal-requires
 minimal_alone-minimal-requires c =
     let s = c.before.before.before.before.before.before.before.before.before.before in
     let cat = s.args.cat.now in
-    let e = c.visible-n.ensures in (
-      omega (arith, e, accepted_visible cat s.requires.accepted s.args.target s.requires.target_bound),
-      (
-        omega (
+    let e = c.visible-n.ensures in record {
+      n_le_column_bound = omega (arith, e, accepted_visible cat s.requires.accepted s.args.target s.requires.target_bound);
+      end_le_row_bound = omega (
           arith,
           c.rows-end.ensures,
           accepted_rows cat s.requires.accepted s.args.target s.requires.target_bound,
-        ),
-        (
-          subst (λ (n : ℕ). s.args.left < 2 ^ n) (sym e) s.requires.left_bound.0,
-          own_fits _ _ e c.own_rights-own.ensures,
-        ),
-      ),
-    )
+        );
+      x_bound = subst (λ (n : ℕ). s.args.left < 2 ^ n) (sym e) s.requires.left_bound.0;
+      own_bound = own_fits _ _ e c.own_rights-own.ensures;
+    }
 
 pub filter_alone-mask-requires : goal.filter_alone-mask-requires
 filter_alone-mask-requires c =
     let s = c.before.before.before.before.before.before.before.before.before.before.before in
     let e = c.visible-n.ensures in
-    (s.requires.accepted, (s.requires.target_bound, (e, subst (λ (n : ℕ). s.args.left < 2 ^ n) (sym e) s.requires.left_bound.0)))
+    record {
+      accepted = s.requires.accepted;
+      target_bound = s.requires.target_bound;
+      n_value = (e, subst (λ (n : ℕ). s.args.left < 2 ^ n) (sym e) s.requires.left_bound.0);
+    }
 
 pub returns-then-sets-eq1 : goal.returns-then-sets-eq1
 returns-then-sets-eq1 c =
     let t = c.before.before.before.before.before in
-    let s = t.before.before.before.before.before.before.before in (
-      λ one.
+    let s = t.before.before.before.before.before.before.before in record {
+      mask_value = λ one.
           alone_rights (ordinary s.args.cat.now) s.args.target
           (filtered s.args.cat.now s.args.target s.requires.accepted s.requires.target_bound s.requires.left_bound.0)
           t.own_rights-own.ensures
           (keyed_rows _ _ t.rows-end.ensures t.lay_all.ensures)
           c.minimal_alone-minimal.ensures
-          c.filter_alone-mask.ensures,
-      λ more. absurd (more c.if-sets-eq1.true),
-    )
+          c.filter_alone-mask.ensures;
+      ready = λ more. absurd (more c.if-sets-eq1.true);
+    }
 
 pub fill-held-requires : goal.fill-held-requires
 fill-held-requires c =
     let t = c.before.before.before.before in
     let s = t.before.before.before.before.before.before.before in
-    let e = t.visible-n.ensures in (
-      s.requires.accepted,
-      (
-        s.requires.target_bound,
-        (
+    let e = t.visible-n.ensures in record {
+      accepted = s.requires.accepted;
+      target_bound = s.requires.target_bound;
+      n_value = (
           e,
           s.requires.left_bound.1,
           keyed_rows _ _ t.rows-end.ensures t.lay_all.ensures,
-        ),
-      ),
-    )
+        );
+    }
 
 pub returns : goal.returns
 returns c =
     let t = c.before.before.before.before.before.before.before in
-    let s = t.before.before.before.before.before.before.before in (
-      λ one. absurd (c.if-sets-eq1.false one),
-      λ more.
+    let s = t.before.before.before.before.before.before.before in record {
+      mask_value = λ one. absurd (c.if-sets-eq1.false one);
+      ready = λ more.
           record {
             rights = t.own_rights-own.ensures;
             holding = c.fill-held.ensures _;
-          },
-    )
+          };
+    }

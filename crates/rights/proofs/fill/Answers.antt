@@ -21,17 +21,15 @@ pub back_seeds-requires : goal.back_seeds-requires
 back_seeds-requires c =
     let s = c.before.before.before.before.before.before.before.before.before.before in
     let p = s.requires.n_value in
-    let w = c.power.ensures in (
-      s.requires.accepted,
-      (
-        s.requires.target_bound,
-        (
+    let w = c.power.ensures in record {
+      accepted = s.requires.accepted;
+      target_bound = s.requires.target_bound;
+      n_value = (
           p.0,
           narrow_wide _ _ p.1 (omega (arith, w)),
           omega (arith, narrow_fits _ _ p.1 p.2.few),
-        ),
-      ),
-    )
+        );
+    }
 
 pub returns-then-work-power : goal.returns-then-work-power
 returns-then-work-power c =
@@ -57,18 +55,16 @@ pub back_table-requires : goal.back_table-requires
 back_table-requires c =
     let s = c.before.before.before.before.before.before.before.before.before.before in
     let p = s.requires.n_value in
-    let g = c.write.ensures in (
-      s.requires.accepted,
-      (
-        s.requires.target_bound,
-        (
+    let g = c.write.ensures in record {
+      accepted = s.requires.accepted;
+      target_bound = s.requires.target_bound;
+      n_value = (
           p.0,
           omega (arith, c.power.ensures),
           g.0,
           g.1 (view s.args.cat.now s.args.target) p.2,
-        ),
-      ),
-    )
+        );
+    }
 
 pub returns : goal.returns
 returns c = λ own. c.back_table.ensures

@@ -6,7 +6,11 @@ use Rattle.rights.proofs.prepare.Goals as goal
 pub enter-requires : goal.enter-requires
 enter-requires c =
     let s = c.before.before.before.before in
-    (s.requires.accepted, (s.requires.target_bound, (pow_pos _, s.requires.work_bound_in_bounds)))
+    record {
+      accepted = s.requires.accepted;
+      target_bound = s.requires.target_bound;
+      left_bound = (pow_pos _, s.requires.work_bound_in_bounds);
+    }
 
 pub returns : goal.returns
 returns c = c.enter.ensures.ready (λ one. omega arith)

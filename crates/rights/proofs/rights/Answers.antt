@@ -39,7 +39,7 @@ returns c =
     let e = s.requires.n_value.0 in
     let f = filtered cat s.args.target s.requires.accepted s.requires.target_bound
     (subst (λ (n : ℕ). s.args.left < 2 ^ n) e s.requires.n_value.1) in
-    let m = c.minimal-found in (
-      ready_rights (ordinary cat) s.args.target f s.requires.ready e m.ensures c.filter.ensures,
-      ready_still (ordinary cat) s.args.target f s.requires.ready e m.ensures,
-    )
+    let m = c.minimal-found in record {
+      value = ready_rights (ordinary cat) s.args.target f s.requires.ready e m.ensures c.filter.ensures;
+      ready_2 = ready_still (ordinary cat) s.args.target f s.requires.ready e m.ensures;
+    }

@@ -13,14 +13,14 @@ pub returns-then-not-is_digit : goal.returns-then-not-is_digit
 unfolding digits_end
 returns-then-not-is_digit c =
     sym (first_here _ _ c.loop-q-test.true
-    (sym (ap not c.is_digit.ensures) ∙ c.if-not-is_digit.true))
+    (sym (ap not c.is_digit.ensures) ∙ (ap not c.if-not-is_digit.true)))
     ∙ c.loop-q.invariant
 
 pub loop-q-preserved : goal.loop-q-preserved
 unfolding digits_end
 loop-q-preserved c =
     sym (first_more _ _ c.loop-q-test.true
-    (sym (ap not c.is_digit.ensures) ∙ c.if-not-is_digit.false))
+    (sym (ap not c.is_digit.ensures) ∙ (ap not c.if-not-is_digit.false)))
     ∙ c.loop-q.invariant
 
 pub returns : goal.returns

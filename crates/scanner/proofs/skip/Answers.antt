@@ -13,14 +13,14 @@ pub returns-then-not-is_white : goal.returns-then-not-is_white
 unfolding skip
 returns-then-not-is_white c =
     sym (first_here _ _ c.loop-q-test.true
-    (sym (ap not c.is_white.ensures) ∙ c.if-not-is_white.true))
+    (sym (ap not c.is_white.ensures) ∙ (ap not c.if-not-is_white.true)))
     ∙ c.loop-q.invariant
 
 pub loop-q-preserved : goal.loop-q-preserved
 unfolding skip
 loop-q-preserved c =
     sym (first_more _ _ c.loop-q-test.true
-    (sym (ap not c.is_white.ensures) ∙ c.if-not-is_white.false))
+    (sym (ap not c.is_white.ensures) ∙ (ap not c.if-not-is_white.false)))
     ∙ c.loop-q.invariant
 
 pub returns : goal.returns

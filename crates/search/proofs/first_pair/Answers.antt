@@ -10,10 +10,10 @@ mark_leaders-requires c =
 
 pub first_stray-requires : goal.first_stray-requires
 first_stray-requires c =
-    let s = c.requires in (
-      (led_lower s.1 c.leaders_of.ensures, s.2),
-      c.mark_leaders.ensures.1,
-    )
+    let s = c.requires in record {
+      lower_leaders = (led_lower s.1 c.leaders_of.ensures, s.2);
+      marked_below = c.mark_leaders.ensures.1;
+    }
 
 pub returns : goal.returns
 returns c =

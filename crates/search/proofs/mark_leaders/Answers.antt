@@ -13,7 +13,10 @@ mark_leader-requires c =
     let i = s.0.short in
     let q = c.loop-q.q in
     let l = s.0.lower q (omega arith) in
-    ((omega arith, omega arith, s.1), c.loop-q.invariant.1)
+    record {
+      q_lt_row_bound = (omega arith, omega arith, s.1);
+      marks_len = c.loop-q.invariant.1;
+    }
 
 pub loop-q-smaller : goal.loop-q-smaller
 loop-q-smaller c = omega arith

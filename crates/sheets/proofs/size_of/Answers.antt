@@ -16,8 +16,8 @@ overflow_add-result-2 c =
 
 pub returns : goal.returns
 returns c =
-    let a = c.args in (
-      ap (λ (k : ℕ). 6 + get_or a.counts.now a.table 0 * (2 + 4 * k)) c.columns-columns.ensures
-          ∙ size_is a.shape.now a.counts.now a.table,
-      omega (arith, size_small c.columns-columns.result _ (omega arith) c.requires.1),
-    )
+    let a = c.args in record {
+      is = ap (λ (k : ℕ). 6 + get_or a.counts.now a.table 0 * (2 + 4 * k)) c.columns-columns.ensures
+          ∙ size_is a.shape.now a.counts.now a.table;
+      small = omega (arith, size_small c.columns-columns.result _ (omega arith) c.requires.1);
+    }

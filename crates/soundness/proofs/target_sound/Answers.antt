@@ -1,4 +1,6 @@
 -- `soundness::target_sound` meets its contract.
+use mathlib.Core.Path.{ap}
+use mathlib.Core.Bool.{not}
 use Prim.Native.Nat.{◌≤◌}
 use mathlib.Core.Path.{sym}
 use native.Mathlib.Omega.{arith}
@@ -34,14 +36,18 @@ pub returns-then-not-entries_fit : goal.returns-then-not-entries_fit
 returns-then-not-entries_fit c =
     let s = c.before.before.before.before.before.before.before in
     says_no (not_fitting s.args.cat.now s.args.target _ _ _ c.visible-n.ensures
-    c.inherited-low.ensures (said_no c.entries_fit.ensures c.if-not-entries_fit.true))
+    c.inherited-low.ensures (said_no c.entries_fit.ensures (ap not c.if-not-entries_fit.true)))
 
 pub sow-requires : goal.sow-requires
 sow-requires c =
     let s = c.before.before.before.before.before.before.before.before.before in
     let m = c.wide-m.ensures in
     let n = c.visible-n.ensures in
-    (s.requires.accepted, (s.requires.target_bound, (n, blank_room _ m.word (m.few (omega (arith, few s, n))))))
+    record {
+      accepted = s.requires.accepted;
+      target_bound = s.requires.target_bound;
+      n_value = (n, blank_room _ m.word (m.few (omega (arith, few s, n))));
+    }
 
 pub backed_plane-requires : goal.backed_plane-requires
 backed_plane-requires c =
@@ -49,7 +55,11 @@ backed_plane-requires c =
     let n = wide.visible-n.ensures in
     let m = wide.wide-m.ensures in
     let s = wide.before.before.before.before.before.before.before in
-    (s.requires.accepted, (omega (arith, s.requires.target_bound), (n, m.all, blank_room _ m.word (m.few (omega (arith, few s, n))))))
+    record {
+      accepted = s.requires.accepted;
+      target_bound = omega (arith, s.requires.target_bound);
+      n_value = (n, m.all, blank_room _ m.word (m.few (omega (arith, few s, n))));
+    }
 
 pub close_lefts-requires : goal.close_lefts-requires
 close_lefts-requires c =
@@ -60,7 +70,7 @@ close_lefts-requires c =
     let s = fit.before.before.before.before.before.before in (
       blank_room _ m.word (m.few (omega (arith, few s, n))),
       s.requires.count_in_bounds,
-      lefts_narrow _ _ _ _ _ m.all (fits_narrow (said_yes fit.entries_fit.ensures fit.if-not-entries_fit.false)),
+      lefts_narrow _ _ _ _ _ m.all (fits_narrow (said_yes fit.entries_fit.ensures (ap not fit.if-not-entries_fit.false))),
     )
 
 pub rights_sound-requires : goal.rights_sound-requires
@@ -85,7 +95,7 @@ rights_sound-requires c =
       room_kept sow.sow.ensures.0 room,
       room_kept (search rules) room,
       s.requires.count_in_bounds,
-      fits_narrow (said_yes fit.entries_fit.ensures fit.if-not-entries_fit.false),
+      fits_narrow (said_yes fit.entries_fit.ensures (ap not fit.if-not-entries_fit.false)),
       room_kept (search rules) room,
       keys.close_lefts.ensures,
     )
@@ -101,7 +111,7 @@ returns c =
     let low = fit.inherited-low.ensures in
     let by = fitting cat s.args.target _ _ _ n low s.requires.target_bound (omega (arith, few s, n))
     (omega (arith, inherited_visible cat s.args.target, n, low))
-    (said_yes fit.entries_fit.ensures fit.if-not-entries_fit.false) in
+    (said_yes fit.entries_fit.ensures (ap not fit.if-not-entries_fit.false)) in
     same_answer by.0 by.1
     (c.rights_sound.ensures (view cat s.args.target) (sym n) (view_equivalence cat s.args.target)
     sow.sow.ensures.1 backed.backed_plane.ensures)

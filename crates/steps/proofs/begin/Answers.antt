@@ -49,7 +49,10 @@ pass_first-requires c =
     let none = sym f.check_code-code.ensures
     ∙ f.if-code-ne0.false in
     let s = c.before.before.before.before.before.before.before.before.before.before.before.before in
-    (none, (c.first-w.ensures s.args.work.now (search rules)).fresh)
+    record {
+      accepted = none;
+      fresh = (c.first-w.ensures s.args.work.now (search rules)).fresh;
+    }
 
 pub step-requires : goal.step-requires
 step-requires c =

@@ -14,7 +14,11 @@ loop-v-init c = (c.requires.0, stepping_begun _ _ _ c.requires.1)
 pub onward-requires : goal.onward-requires
 onward-requires c =
     let i = c.loop-v.invariant in
-    (i.0, (i.1.good, omega arith))
+    record {
+      accepted = i.0;
+      good = i.1.good;
+      pending_value = omega arith;
+    }
 
 pub loop-v-smaller : goal.loop-v-smaller
 loop-v-smaller c =

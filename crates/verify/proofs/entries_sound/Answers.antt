@@ -1,4 +1,6 @@
 -- The answers of `verify::entries_sound`.
+use mathlib.Core.Path.{ap}
+use mathlib.Core.Bool.{not}
 use Prim.Native.Nat.{◌-◌}
 use native.Mathlib.Omega.{arith}
 use Rattle.evidence.proofs.Answers.{says_yes, says_no, said_yes, said_no, so_far_none, so_far_more, so_far_all}
@@ -8,7 +10,7 @@ use Rattle.verify.proofs.entries_sound.Goals as goal
 pub returns-then-not-all_known : goal.returns-then-not-all_known
 returns-then-not-all_known c =
     let s = c.before.before.before.before.before.before in
-    says_no (λ h. said_no c.before.all_Known.ensures c.if-not-all_known.true
+    says_no (λ h. said_no c.before.all_Known.ensures (ap not c.if-not-all_known.true)
     (entries_known s.args.cat.now _ c.tables-end.ensures h))
 
 pub loop-target-init : goal.loop-target-init
@@ -17,20 +19,24 @@ loop-target-init c = so_far_none
 pub target_sound-requires : goal.target_sound-requires
 target_sound-requires c =
     let s = c.before.before.before.before.before.before.before.before in
-    (s.requires.0, (omega (arith, c.loop-target-test.true, c.tables-end.ensures), s.requires.1))
+    record {
+      accepted = s.requires.0;
+      target_bound = omega (arith, c.loop-target-test.true, c.tables-end.ensures);
+      count_in_bounds = s.requires.1;
+    }
 
 pub returns-then-not-target_sound : goal.returns-then-not-target_sound
 returns-then-not-target_sound c =
-    says_no (λ h. said_no c.target_sound.ensures c.if-not-target_sound.true (λ e m is. h e m))
+    says_no (λ h. said_no c.target_sound.ensures (ap not c.if-not-target_sound.true) (λ e m is. h e m))
 
 pub loop-target-preserved : goal.loop-target-preserved
 loop-target-preserved c =
-    so_far_more c.loop-target-test.true (said_yes c.target_sound.ensures c.if-not-target_sound.false)
+    so_far_more c.loop-target-test.true (said_yes c.target_sound.ensures (ap not c.if-not-target_sound.false))
     c.loop-target.invariant
 
 pub returns : goal.returns
 returns c =
     let s = c.before.before.before.before.before.before.before.before in
     says_yes (all_targets_sound s.args.cat.now _ c.tables-end.ensures
-    (said_yes c.before.before.before.all_Known.ensures c.if-not-all_known.false)
+    (said_yes c.before.before.before.all_Known.ensures (ap not c.if-not-all_known.false))
     (so_far_all (omega arith) c.loop-target.invariant))

@@ -1,4 +1,6 @@
 -- `verify::judged` meets its contract.
+use mathlib.Core.Path.{ap}
+use mathlib.Core.Bool.{not}
 use native.Mathlib.Omega.{arith}
 use Rattle.model.specs.Entries.{entries_from}
 use Rattle.evidence.proofs.Answers.{said_yes, said_no}
@@ -12,22 +14,22 @@ records_true-requires c = (c.requires.0, count_is _)
 pub returns-then-not-records_true : goal.returns-then-not-records_true
 returns-then-not-records_true c =
     let a = c.args in
-    refused_17 a.cat.now _ a.bytes.now (said_no c.records_true.ensures c.if-not-records_true.true)
+    refused_17 a.cat.now _ a.bytes.now (said_no c.records_true.ensures (ap not c.if-not-records_true.true))
 
 pub returns-then-not-entries_sound : goal.returns-then-not-entries_sound
 returns-then-not-entries_sound c =
     let a = c.args in
-    let fine = said_yes c.records_true.ensures c.if-not-records_true.false in
-    refused_18 a.cat.now _ a.bytes.now fine (said_no c.entries_sound.ensures c.if-not-entries_sound.true)
+    let fine = said_yes c.records_true.ensures (ap not c.if-not-records_true.false) in
+    refused_18 a.cat.now _ a.bytes.now fine (said_no c.entries_sound.ensures (ap not c.if-not-entries_sound.true))
 
 pub sets_covered-requires : goal.sets_covered-requires
 sets_covered-requires c =
     let s = c.before.before.before.before.before.before.before.before in
-    let fine = said_yes c.records_true.ensures c.if-not-records_true.false in (
+    let fine = said_yes c.records_true.ensures (ap not c.if-not-records_true.false) in (
       s.requires.0,
       s.requires.1,
       omega arith,
-      said_yes c.entries_sound.ensures c.if-not-entries_sound.false,
+      said_yes c.entries_sound.ensures (ap not c.if-not-entries_sound.false),
       each_true s.args.cat.now s.args.bytes.now (count_is _) fine,
     )
 
@@ -37,9 +39,9 @@ returns-then-not-sets_covered c =
     let by = covered_held a.cat.now (entries_from a.list.now a.count a.first) a.bytes.now in
     let first = c.before.before.before.before.before in
     let second = c.before.before.before in
-    refused_19 a.cat.now _ a.bytes.now (said_yes first.records_true.ensures first.if-not-records_true.false)
-    (said_yes second.entries_sound.ensures second.if-not-entries_sound.false)
-    (λ h. said_no c.sets_covered.ensures c.if-not-sets_covered.true (by.1 h))
+    refused_19 a.cat.now _ a.bytes.now (said_yes first.records_true.ensures (ap not first.if-not-records_true.false))
+    (said_yes second.entries_sound.ensures (ap not second.if-not-entries_sound.false))
+    (λ h. said_no c.sets_covered.ensures (ap not c.if-not-sets_covered.true) (by.1 h))
 
 pub returns : goal.returns
 returns c =
@@ -48,6 +50,6 @@ returns c =
     let first = c.before.before.before.before.before in
     let second = c.before.before.before in
     accepted_from a.cat.now a.list.now a.bytes.now a.count a.first
-    (said_yes first.records_true.ensures first.if-not-records_true.false)
-    (said_yes second.entries_sound.ensures second.if-not-entries_sound.false)
-    (by.0 (said_yes c.sets_covered.ensures c.if-not-sets_covered.false))
+    (said_yes first.records_true.ensures (ap not first.if-not-records_true.false))
+    (said_yes second.entries_sound.ensures (ap not second.if-not-entries_sound.false))
+    (by.0 (said_yes c.sets_covered.ensures (ap not c.if-not-sets_covered.false)))

@@ -1,4 +1,6 @@
 -- The answers of `verify::records_true`.
+use mathlib.Core.Path.{ap}
+use mathlib.Core.Bool.{not}
 use Prim.Native.Nat.{◌-◌}
 use native.Mathlib.Omega.{arith}
 use Rattle.evidence.proofs.Answers.{says_yes, says_no, said_yes, said_no, so_far_none, so_far_more, so_far_all}
@@ -14,7 +16,7 @@ all_known-requires c = held_inside _ c.requires.1
 pub returns-then-not-all_known : goal.returns-then-not-all_known
 returns-then-not-all_known c =
     let s = c.before.before.before.before.before.before.before in
-    says_no (λ h. said_no c.before.all_Known.ensures c.if-not-all_known.true
+    says_no (λ h. said_no c.before.all_Known.ensures (ap not c.if-not-all_known.true)
     (for_tables s.args.cat.now s.args.bytes.now s.requires.1 c.tables-end.ensures h))
 
 pub loop-target-init : goal.loop-target-init
@@ -24,18 +26,22 @@ pub target_true-requires : goal.target_true-requires
 target_true-requires c =
     let s = c.before.before.before.before.before.before.before.before.before in
     let end = c.tables-end.ensures in
-    (s.requires.0, (omega (arith, c.loop-target-test.true, end), held_inside _ s.requires.1))
+    record {
+      accepted = s.requires.0;
+      target_bound = omega (arith, c.loop-target-test.true, end);
+      count_in_bounds = held_inside _ s.requires.1;
+    }
 
 pub returns-then-not-target_true : goal.returns-then-not-target_true
 returns-then-not-target_true c =
     let s = c.before.before.before.before.before.before.before.before.before.before.before in
     let end = c.tables-end.ensures in
-    says_no (λ h. said_no c.target_true.ensures c.if-not-target_true.true
+    says_no (λ h. said_no c.target_true.ensures (ap not c.if-not-target_true.true)
     (of_target s.args.cat.now s.args.bytes.now s.requires.1 end h _))
 
 pub loop-target-preserved : goal.loop-target-preserved
 loop-target-preserved c =
-    so_far_more c.loop-target-test.true (said_yes c.target_true.ensures c.if-not-target_true.false)
+    so_far_more c.loop-target-test.true (said_yes c.target_true.ensures (ap not c.if-not-target_true.false))
     c.loop-target.invariant
 
 pub returns : goal.returns
@@ -44,5 +50,5 @@ returns c =
     let end = c.tables-end.ensures in
     says_yes (all_targets_true s.args.cat.now s.args.bytes.now s.requires.1 end
     c.if-bytes-ne0.false
-    (said_yes c.before.before.before.all_Known.ensures c.if-not-all_known.false)
+    (said_yes c.before.before.before.all_Known.ensures (ap not c.if-not-all_known.false))
     (so_far_all (omega arith) c.loop-target.invariant))

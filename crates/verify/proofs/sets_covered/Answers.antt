@@ -1,4 +1,6 @@
 -- The answers of `verify::sets_covered`.
+use mathlib.Core.Path.{ap}
+use mathlib.Core.Bool.{not}
 use Prim.Native.Nat.{◌-◌}
 use native.Mathlib.Omega.{arith}
 use Rattle.evidence.proofs.Answers.{says_yes, says_no, said_yes, said_no, so_far_none, so_far_more, so_far_all}
@@ -10,21 +12,19 @@ loop-target-init c = so_far_none
 
 pub target_covered-requires : goal.target_covered-requires
 target_covered-requires c =
-    let s = c.before.before.before.before.before.before.before in (
-      s.requires.0,
-      (
-        omega (arith, c.loop-target-test.true, c.tables-end.ensures),
-        (s.requires.1, s.requires.2, s.requires.3, s.requires.4),
-      ),
-    )
+    let s = c.before.before.before.before.before.before.before in record {
+      accepted = s.requires.0;
+      target_bound = omega (arith, c.loop-target-test.true, c.tables-end.ensures);
+      count_in_bounds = (s.requires.1, s.requires.2, s.requires.3, s.requires.4);
+    }
 
 pub returns-then-not-target_covered : goal.returns-then-not-target_covered
 returns-then-not-target_covered c =
-    says_no (λ h. said_no c.target_covered.ensures c.if-not-target_covered.true (h _))
+    says_no (λ h. said_no c.target_covered.ensures (ap not c.if-not-target_covered.true) (h _))
 
 pub loop-target-preserved : goal.loop-target-preserved
 loop-target-preserved c =
-    so_far_more c.loop-target-test.true (said_yes c.target_covered.ensures c.if-not-target_covered.false)
+    so_far_more c.loop-target-test.true (said_yes c.target_covered.ensures (ap not c.if-not-target_covered.false))
     c.loop-target.invariant
 
 pub returns : goal.returns

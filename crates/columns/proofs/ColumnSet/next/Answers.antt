@@ -18,6 +18,7 @@ use Rattle.columns.proofs.ColumnSet.next.Lts as lts
 use Rattle.columns.proofs.ColumnSet.next.Tie as tie
 use Rattle.columns.proofs.ColumnSet.next.Reads as reads
 use Rattle.columns.proofs.ColumnSet.next.Goals as goal
+use Rattle.columns.proofs.ColumnSet.next.Goals.{then-x-gt0+else-r-end, else-x-gt0}
 
 abbrev Else-end-x : Type 0
 Else-end-x = lts.Else2 tie.the-claims reads.Pre reads.Post
@@ -72,13 +73,12 @@ run c =
 last : (c : Joined-x-gt0) → LastOfSize (width c.before) (bits c.before)
 last c =
     let d = c.before in
-    ⊎_elim
-    (λ w.
-    last_moved (width d) (bits d) (bits d + w.1.result)
-    (moved_by 32 _ _ w.0.taken (word d) w.1.ensures)
-    (omega (arith, w.2.left, d.power-end.ensures)))
-    (λ w. last_zero (width d) (bits d) w.left)
-    c.if-x-gt0.branch
+    elim c.if-x-gt0.branch [
+      then-x-gt0+else-r-end w ↦ last_moved (width d) (bits d) (bits d + w.power.result)
+          (moved_by 32 _ _ w.if-x-gt0.true (word d) w.power.ensures)
+          (omega (arith, w.if-r-end.false, d.power-end.ensures))
+    | else-x-gt0 w ↦ last_zero (width d) (bits d) w.if-x-gt0.false
+    ]
 
 pub returns-then-n-gt-COLUMN_BOUND : goal.returns-then-n-gt-COLUMN_BOUND
 returns-then-n-gt-COLUMN_BOUND c = sym (next_over _ _ c.if-n-gt-COLUMN_BOUND.true)

@@ -6,11 +6,11 @@ pub returns-then-few-lt256 : goal.returns-then-few-lt256
 returns-then-few-lt256 c =
     let s = c.before.before.before.before.before.before.before in
     let a = s.args in
-    let low = c.compare_eight.ensures in (
-      line_low a.bytes.now a.few a.x _ a.high.now c.if-few-lt256.true low
-          c.join_parts.ensures,
-      (low.long, s.requires.low_len.1),
-    )
+    let low = c.compare_eight.ensures in record {
+      line_of = line_low a.bytes.now a.few a.x _ a.high.now c.if-few-lt256.true low
+          c.join_parts.ensures;
+      low_len_2 = (low.long, s.requires.low_len.1);
+    }
 
 pub returns : goal.returns
 returns c =
@@ -18,4 +18,7 @@ returns c =
     let a = s.args in
     let low = c.compare_eight.ensures in
     let high = c.compare_eight-2.ensures in
-    (line_parts a.bytes.now a.few a.x _ _ low high c.join_parts-2.ensures, (low.long, high.long))
+    record {
+      line_of = line_parts a.bytes.now a.few a.x _ _ low high c.join_parts-2.ensures;
+      low_len_2 = (low.long, high.long);
+    }

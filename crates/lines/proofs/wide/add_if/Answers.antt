@@ -6,14 +6,17 @@ use Rattle.lines.proofs.wide.add_if.Goals as goal
 pub returns-then-few-k-eq1 : goal.returns-then-few-k-eq1
 returns-then-few-k-eq1 c =
     let a = c.args in
-    (λ bytes o. line_kept a.keys.now bytes a.few a.k a.x c.if-few-k-eq1.true o, c.requires.3)
+    record {
+      by_index = λ bytes o. line_kept a.keys.now bytes a.few a.k a.x c.if-few-k-eq1.true o;
+      line_len = c.requires.3;
+    }
 
 pub returns : goal.returns
 returns c =
     let s = c.before.before.before in
-    let a = s.args in (
-      λ bytes o.
+    let a = s.args in record {
+      by_index = λ bytes o.
           line_joined a.keys.now bytes a.few a.k a.x a.line.now s.requires.0
-          (bit_zero_if _ _ c.if-few-k-eq1.false) c.add_member.ensures o,
-      c.add_member.ensures.long,
-    )
+          (bit_zero_if _ _ c.if-few-k-eq1.false) c.add_member.ensures o;
+      line_len = c.add_member.ensures.long;
+    }

@@ -23,22 +23,23 @@ pub line_of-requires : goal.line_of-requires
 line_of-requires c =
     let h = c.requires.n_le_column_bound in
     let l = c.loop-x.invariant in
-    let t = c.loop-x-test.true in (
-      (h.0, omega (arith, h.1), h.1),
-      ((l.2, l.3, l.4), c.number-few.ensures),
-    )
+    let t = c.loop-x-test.true in record {
+      n_le_column_bound = (h.0, omega (arith, h.1), h.1);
+      low_len = (l.2, l.3, l.4);
+      numbered = c.number-few.ensures;
+    }
 
 pub note_line-requires : goal.note_line-requires
 note_line-requires c =
     let h = c.requires.n_le_column_bound in
     let a = c.args in
     let t = c.loop-x-test.true in
-    let sets = c.line_of.ensures.line_of in (
-      (omega arith, h.1, c.loop-x.invariant.1.long),
-      λ q k m. sets_small a.keys.now a.n
+    let sets = c.line_of.ensures.line_of in record {
+      from_le_end = (omega arith, h.1, c.loop-x.invariant.1.long);
+      by_index = λ q k m. sets_small a.keys.now a.n
           c.loop-x.x a.end h.0 sets q
-          (omega arith) m,
-    )
+          (omega arith) m;
+    }
 
 pub loop-x-preserved : goal.loop-x-preserved
 loop-x-preserved c =

@@ -18,7 +18,10 @@ behind c =
     )
 
 pub occurring-requires : goal.occurring-requires
-occurring-requires c = ((c.requires.1, c.requires.2), blank_begun)
+occurring-requires c = record {
+      n_le_column_bound = (c.requires.1, c.requires.2);
+      blank = blank_begun;
+    }
 
 pub write_seeds-requires : goal.write_seeds-requires
 write_seeds-requires c =
@@ -29,11 +32,11 @@ pub bounds-words-power : goal.bounds-words-power
 bounds-words-power c = omega (arith, behind c)
 
 pub returns : goal.returns
-returns c = (
-  sown c.write_seeds.new.words c.power.result
+returns c = record {
+      sown = sown c.write_seeds.new.words c.power.result
       c.requires.0 c.power.ensures
       (sown_among c.occurring.ensures _
       c.requires.0
-      c.write_seeds.ensures),
-  none_cached _ _ c.write_seeds.new.words c.power.ensures (behind c),
-)
+      c.write_seeds.ensures);
+      n_after = none_cached _ _ c.write_seeds.new.words c.power.ensures (behind c);
+    }

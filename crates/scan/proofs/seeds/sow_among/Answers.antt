@@ -4,7 +4,10 @@ use Rattle.scan.proofs.Writing.{sown_among}
 use Rattle.scan.proofs.seeds.sow_among.Goals as goal
 
 pub occurring-requires : goal.occurring-requires
-occurring-requires c = ((c.requires.0, c.requires.3), blank_begun)
+occurring-requires c = record {
+      n_le_column_bound = (c.requires.0, c.requires.3);
+      blank = blank_begun;
+    }
 
 pub returns : goal.returns
 returns c = (

@@ -14,7 +14,10 @@ set_at-left-requires c =
     let s = c.before.before.before.before in
     let e = c.visible-n.ensures in
     let n = accepted_visible s.args.cat.now s.requires.accepted f.result.target f.ensures.target in
-    (omega arith, subst (λ (k : ℕ). f.result.index < 2 ^ k) (sym e) f.ensures.inside)
+    record {
+      n_le_column_bound = omega arith;
+      index_bound = subst (λ (k : ℕ). f.result.index < 2 ^ k) (sym e) f.ensures.inside;
+    }
 
 pub returns : goal.returns
 returns c =

@@ -15,7 +15,12 @@ returns-then-w-eq0 c =
 pub following-requires : goal.following-requires
 following-requires c =
     let s = c.before.before.before.before.before.before in
-    (s.requires.accepted, (s.requires.good, (s.requires.pending_value, omega arith)))
+    record {
+      accepted = s.requires.accepted;
+      good = s.requires.good;
+      pending_value = s.requires.pending_value;
+      budget_nonzero = omega arith;
+    }
 
 pub pass-requires : goal.pass-requires
 pass-requires c =
@@ -25,7 +30,11 @@ pass-requires c =
     subst (λ (r : Reached). Follows (ordinary s.args.cat.now) s.args.w r f.new.1.1.0)
     c.v-1.given.1
     f.ensures in
-    (s.requires.accepted, (a.fresh, a.ready))
+    record {
+      accepted = s.requires.accepted;
+      fresh = a.fresh;
+      ready = a.ready;
+    }
 
 pub returns-in-At : goal.returns-in-At
 returns-in-At c =

@@ -8,13 +8,12 @@ pub rights-mask-requires : goal.rights-mask-requires
 rights-mask-requires c =
     let s = c.before.before.before.before in
     let l = ordinary s.args.cat.now in
-    let f = s.requires.fresh in (
-      s.requires.accepted,
-      (
-        fresh_target l s.args.w s.args.work.now f,
-        ((f.sound.members, fresh_inside l s.args.w s.args.work.now f), s.requires.ready),
-      ),
-    )
+    let f = s.requires.fresh in record {
+      accepted = s.requires.accepted;
+      target_bound = fresh_target l s.args.w s.args.work.now f;
+      n_value = (f.sound.members, fresh_inside l s.args.w s.args.work.now f);
+      ready = s.requires.ready;
+    }
 
 pub passed-requires : goal.passed-requires
 passed-requires c =

@@ -10,13 +10,11 @@ use Rattle.walk.proofs.onward.pass_first.Goals as goal
 pub alone-mask-requires : goal.alone-mask-requires
 alone-mask-requires c =
     let s = c.before.before.before.before.before.before in
-    let l = ordinary s.args.cat.now in (
-      s.requires.accepted,
-      (
-        fresh_target l s.args.w s.args.work.now s.requires.fresh,
-        (fresh_left l s.args.w s.args.work.now s.requires.fresh, s.requires.fresh.sound.enough),
-      ),
-    )
+    let l = ordinary s.args.cat.now in record {
+      accepted = s.requires.accepted;
+      target_bound = fresh_target l s.args.w s.args.work.now s.requires.fresh;
+      left_bound = (fresh_left l s.args.w s.args.work.now s.requires.fresh, s.requires.fresh.sound.enough);
+    }
 
 pub passed-requires : goal.passed-requires
 passed-requires c =
@@ -34,13 +32,11 @@ returns-then-w-eq1 c =
 
 pub prepare-entered-requires : goal.prepare-entered-requires
 prepare-entered-requires c =
-    let s = c.before.before.before.before.before.before in (
-      s.requires.accepted,
-      (
-        fresh_target (ordinary s.args.cat.now) s.args.w s.args.work.now s.requires.fresh,
-        s.requires.fresh.sound.enough,
-      ),
-    )
+    let s = c.before.before.before.before.before.before in record {
+      accepted = s.requires.accepted;
+      target_bound = fresh_target (ordinary s.args.cat.now) s.args.w s.args.work.now s.requires.fresh;
+      work_bound_in_bounds = s.requires.fresh.sound.enough;
+    }
 
 pub rights-mask-requires : goal.rights-mask-requires
 rights-mask-requires c =
@@ -49,16 +45,12 @@ rights-mask-requires c =
     let v = c.entering-v.result in
     let p = c.prepare-entered in
     let e = entered_fresh l s.args.w s.args.work.now s.requires.fresh c.entering-v.ensures in
-    let f = e s.args.work.now refl in (
-      s.requires.accepted,
-      (
-        fresh_target l v s.args.work.now f,
-        (
-          (f.sound.members, fresh_inside l v s.args.work.now f),
-          entered_ready l s.args.w s.args.work.now s.requires.fresh c.entering-v.ensures p.ensures,
-        ),
-      ),
-    )
+    let f = e s.args.work.now refl in record {
+      accepted = s.requires.accepted;
+      target_bound = fresh_target l v s.args.work.now f;
+      n_value = (f.sound.members, fresh_inside l v s.args.work.now f);
+      ready = entered_ready l s.args.w s.args.work.now s.requires.fresh c.entering-v.ensures p.ensures;
+    }
 
 pub passed-requires-2 : goal.passed-requires-2
 passed-requires-2 c =
