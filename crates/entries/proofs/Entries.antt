@@ -36,11 +36,13 @@ pub entries_back : (es : List Entry) (ys : List ℕ) → Small es → entries_fr
 unfolding entries_from entries_bytes
 entries_back [] ys s = refl
 entries_back (e ∷ es) ys s =
-    rw (append_assoc (bytes_of e) (entries_bytes es) ys)
-    (ap₂
+    ap
+    (λ (zs : List ℕ). entries_from zs (suc (length es)) 0)
+    (append_assoc (bytes_of e) (entries_bytes es) ys)
+    ∙ ap₂
     (λ (x : Entry) (xs : List Entry). x ∷ xs)
     (entry_back e (entries_bytes es ++ ys) s.0)
-    (next_entries e (entries_bytes es ++ ys) (length es) ∙ entries_back es ys s.1))
+    (next_entries e (entries_bytes es ++ ys) (length es) ∙ entries_back es ys s.1)
 
 -- what is read, written
 pub entries_forth : (file : List ℕ) (n i : ℕ) → Bytes file → i + entry_bytes * n ≤ length file

@@ -10,7 +10,7 @@ use Prim.Native.Nat.{ℕ, zero, suc}
 use mathlib.Core.Path.{◌≡◌, refl, ap, subst}
 use mathlib.Core.List.{List, [], ◌∷◌}
 use seplogic.Ra.Ura.{Ura}
-use mir.Syntax.{Name, Place, Opd as Operand, Body, seq, call}
+use mir.Syntax.{Callee as Function, Place, Opd as Operand, Body, seq, call}
 use mir.Val.{Val}
 use base.Logic.{ent, sep, emp, guard_i, id⊢}
 use base.Fml.{Fml, ftrue, flft}
@@ -95,7 +95,7 @@ module _ {M : Type 1} {𝓤 : Ura M} (𝓛 : Logic 𝓤) (T : Ended) (c : Clause
 
     -- what the walk has after the call
     abbrev pub Back : (Answer.Denot → Val) → Answer.Denot → Last → List (Item 𝓤) → List (Item 𝓤)
-    Back val r ws Γ = tokens_of ∷ ‵ (Answer.own r (val r ∷ [])) ∷ ‵ (last_own ws) ∷ Γ
+    Back val r ws Γ = tokens_of ∷ ‵ (Answer.own_val r (val r ∷ [])) ∷ ‵ (last_own ws) ∷ Γ
 
     pub asks : ent 𝓤 (emp 𝓤) ((c x.0.0 x.0.3).requires x.1)
         → ent 𝓤 (sep 𝓤 (mean 𝓛 tokens_of) (sem 𝓛 args_own)) (Callee.pre x)
@@ -132,7 +132,7 @@ module _ {M : Type 1} {𝓤 : Ura M} {𝓛 : Logic 𝓤} {K : Type 0} {Γ : List
   told k z T c x val tells S said v go =
       let R = Answer 𝓛 T c x in
       use1 𝓛 (later (some (λ (r : R.Denot).
-      (raw (alive 𝓛 T.signature x.0.0 x.0.1) ⊛ ‵ (R.own r (v ∷ [])))
+      (raw (alive 𝓛 T.signature x.0.0 x.0.1) ⊛ ‵ (R.own_val r (v ∷ [])))
       ⊛ some (λ (ws : Last 𝓛 T c x). ‵ (last_own 𝓛 T c x ws)
       ⊛ raw ((c x.0.0 x.0.3).ensures x.1 r (at_exit T x.0.0 x.0.3 ws))))))
       (id⊢ 𝓤 _) $ await k z $ pick k (λ r. split k $ move k (1 ∷ []) $ pick k (λ ws.
@@ -144,7 +144,7 @@ module _ {M : Type 1} {𝓤 : Ura M} {𝓛 : Logic 𝓤} {K : Type 0} {Γ : List
       learn k (λ kept. move k (1 ∷ []) $ split k $
       use1 𝓛 (tokens_of 𝓛 T c x) (tokens_out 𝓛 T.signature.lifetimes x.0.0 x.0.1) $
       move k (1 ∷ []) $ peeks k R (Is R) (shows 𝓛 R) r (v ∷ []) (λ is.
-      rewrite k 0 (λ (us : List Val). ‵ (R.own r us)) (tells r (v ∷ []) is) refl $
+      rewrite k 0 (λ (us : List Val). ‵ (R.own_val r us)) (tells r (v ∷ []) is) refl $
       move k (1 ∷ 0 ∷ []) $
       go r ws (record {
         ensured = ensured;
@@ -154,7 +154,7 @@ module _ {M : Type 1} {𝓤 : Ura M} {𝓛 : Logic 𝓤} {K : Type 0} {Γ : List
         settled = subst (Is R r) (tells r (v ∷ []) is) is;
       }))))))
 
-  module _ {E : Env 𝓤 H} {C : Calls 𝓤 H} {Λ : Loops 𝓤 H} {f : Name} {xs : List Operand} {d : Place} {q : Post 𝓤 H}
+  module _ {E : Env 𝓤 H} {C : Calls 𝓤 H} {Λ : Loops 𝓤 H} {f : Function} {xs : List Operand} {d : Place} {q : Post 𝓤 H}
     where
       pub calls : K → FmC 𝓤 H 𝓛.laws C → {rest : Body} (T : Ended) (c : Clauses 𝓤 T)
           → Triple 𝓤 (C f) (Callee 𝓛 T c)

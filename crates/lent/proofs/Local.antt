@@ -1,15 +1,15 @@
 -- A local array in a walk: its elements one by one, as a row that can be cut in two and joined, and the array again.
 -- Assumes `Logic`.
---     row_cut, row-join    a row of xs and ys is a row of xs and, behind it, one of ys
---     array_row, array-in  a local array of n elements is a row of them, and a row of n elements is a local array
---     array-out            the same of an array that repeats one element
---     array-under          the relation of an array, with each element seen through a function
+--     row_cut, row_join    a row of xs and ys is a row of xs and, behind it, one of ys
+--     array_row, array_in  a local array of n elements is a row of them, and a row of n elements is a local array
+--     array_out            the same of an array that repeats one element
+--     array_under          the relation of an array, with each element seen through a function
 use Prim.Native.Nat.{ℕ, zero, suc, ◌+◌}
 use mathlib.Core.Path.{◌≡◌, refl, ◌∙◌, subst}
 use mathlib.Core.List.{List, [], ◌∷◌, ◌++◌, map}
 use lib.ListN.{length, replicate, length-map}
 use seplogic.Ra.Ura.{Ura}
-use seplogic.Ra.TreeShare.{full_share}
+use base.Fraction.{full_share}
 use mir.Syntax.{ty_array}
 use mir.Val.{Val}
 use base.Logic.{ent, sep, guard}
@@ -62,17 +62,18 @@ module _ {M : Type 1} {𝓤 : Ura M} (𝓛 : Logic 𝓤) (R : RattleType) where
         qed 𝓛 (‵ (fat full_share (ty_array (lone R.mir) n) l 0 v) ∷ ‵ ((Array R n).own_val xs (v ∷ [])) ∷ []) ∵
         use1 𝓛 (‵ (cell_at full_share (Array R n).mir (v ∷ []) l 0))
         (𝓛.laws.at_raw full_share (ty_array (lone R.mir) n) l 0 v) $ fjoin ! $
-        fpack ! (List Val) (λ vs. fsep (cell_at full_share (Array R n).mir vs l 0) ((Array R n).own_val xs vs)) (v ∷ []) $
+        fpack ! (List Val) (λ vs. fsep (cell_at full_share (Array R n).mir vs l 0) ((Array R n).own_val xs vs))
+        (v ∷ []) $
         use1 𝓛 (‵ ((arr_parts (shares R) n).part full_share xs l 0))
         (Array-apart 𝓛 R full_share one n xs l 0) $
         fsplit ! $ drop ! $ done !
 
     pub array_out : Copy 𝓛 R → (x : R.Denot) (u : Val)
         → ent 𝓤 (sep 𝓤 (H.at full_share (ty_array (lone R.mir) n) l 0 (array_val (replicate n u))) (sem 𝓛
-        (R.own x (u ∷ []))))
+        (R.own_val x (u ∷ []))))
         (sem 𝓛 (row_at (replicate n x) l 0))
     array_out copy x u =
-        qed 𝓛 (‵ (fat full_share (ty_array (lone R.mir) n) l 0 (array_val (replicate n u))) ∷ ‵ (R.own x
+        qed 𝓛 (‵ (fat full_share (ty_array (lone R.mir) n) l 0 (array_val (replicate n u))) ∷ ‵ (R.own_val x
         (u ∷ [])) ∷ []) ∵
         move ! (1 ∷ []) $
         use1 𝓛 (‵ ((Array R n).own_val (replicate n x) (array_val (replicate n u) ∷ [])))
@@ -104,9 +105,9 @@ each_under f to (x ∷ xs) (u ∷ us) s = (s.0, each_under f to xs us s.1)
 
 pub array_under : (S : RattleType) {D : Type 0} (to : D
     → S.Denot) (n : ℕ) (xs : List D) (us : List Val) (vs : List Val)
-    → (vs ≡ array_val us ∷ []) × (length xs ≡ n) → shadow (each D (λ d. S.own (to d)) xs us)
+    → (vs ≡ array_val us ∷ []) × (length xs ≡ n) → shadow (each D (λ d. S.own_val (to d)) xs us)
     → Is (Array S n) (map to xs) vs
-array_under S to n xs us vs e s = (us, ((e.0, length-map xs to ∙ e.1), each_under S.own to xs us s))
+array_under S to n xs us vs e s = (us, ((e.0, length-map xs to ∙ e.1), each_under S.own_val to xs us s))
 
 pub each_replicate : {D : Type 0} (f : D → List Val → Fml) (n : ℕ) (x : D) (u : Val) → shadow (f x (u ∷ []))
     → shadow (each D f (replicate n x) (replicate n u))

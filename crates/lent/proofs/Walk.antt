@@ -2,13 +2,13 @@
 --     Cell, full, empty   a local at its end: it holds a value, or none
 --     leaves              every local is freed, whatever it holds: `full ◂ empty ◂ .. ◂ tt` from local 0 on. Behind p
 --                         entries of the context stands local 0, behind p - 2 local 1, and so on, as they were
--- allocated
+--                         allocated
 --     met                 a function meets its contract by a walk with the parameters' machine values written out
 use Prim.Native.Nat.{ℕ, zero, suc}
 use mathlib.Core.Path.{refl}
 use mathlib.Core.List.{List, [], ◌∷◌}
 use seplogic.Ra.Ura.{Ura}
-use seplogic.Ra.TreeShare.{full_share}
+use base.Fraction.{full_share}
 use mir.Syntax.{Ty, Fn}
 use mir.Val.{Val}
 use base.Logic.{ent, sep, via}

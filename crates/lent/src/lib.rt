@@ -1,4 +1,4 @@
 // Not for callers: laws for walks by hand, which the borrow checker does not cover; no function. Over a lent slice
 // (`Lent`), a local array (`Local`), a call (`Called`), and the end of a walk (`Walk`).
-// Relies on nothing. The proofs of `listing`, `packed`, `host` and `packed_trials` cite the laws.
+// Relies on nothing.
 #![tactic(auto)]

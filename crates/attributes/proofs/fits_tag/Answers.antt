@@ -8,13 +8,13 @@ returns-then-tables-table c = fits_no_table _ _ _ _ c.number_at-table.ensures (o
 
 pub returns-then-parent-up : goal.returns-then-parent-up
 returns-then-parent-up c =
-    let at = c.before.before.before.before in
+    let at = c in
     fits_no_place _ _ _ _ at.number_at-table.ensures (omega (arith, at.tables.ensures))
     c.parent.ensures c.if-parent-up.true
 
 pub returns : goal.returns
 returns c =
-    let at = c.before.before.before.before in
+    let at = c in
     fits_columns _ _ _ _ at.number_at-table.ensures
     (omega (arith, at.tables.ensures)) at.parent.ensures (omega arith)
     c.columns.ensures c.are_below.ensures

@@ -13,7 +13,7 @@ loop-i-smaller c = omega (arith, c.next_attribute-i-in-loop-i.ensures.after (ome
 pub loop-i-preserved : goal.loop-i-preserved
 loop-i-preserved c =
     let a = c.args in
-    let at = c.before.before.before.before in
+    let at = c in
     storing_more a.s.now a.p at.loop-i.invariant (omega arith) at.number_at.ensures
     c.quoted_number.ensures c.put_code.ensures c.next_attribute-i-in-loop-i.ensures
 

@@ -19,7 +19,7 @@ loop-digit-init c =
 
 pub returns-then-digit-gt9 : goal.returns-then-digit-gt9
 returns-then-digit-gt9 c =
-    let at = c.before.before.before in
+    let at = c in
     in_step_same _ _ _ at.loop-digit.invariant at.digit_at.ensures c.loop-digit-test.true c.if-digit-gt9.true
 
 -- equal digits stand before the end
@@ -27,7 +27,7 @@ within : (c : Else-digit-gt9)
     → c.loop-digit.i
     < length c.args.s.now
 within c =
-    let at = c.before.before in
+    let at = c in
     in_step_first _ _ _ at.loop-digit.invariant at.digit_at.ensures c.loop-digit-test.true (omega arith)
 
 pub overflow_add-i : goal.overflow_add-i
@@ -35,7 +35,7 @@ overflow_add-i c = omega (arith, within c.before)
 
 pub overflow_add-j : goal.overflow_add-j
 overflow_add-j c =
-    let at = c.before.before.before in
+    let at = c in
     omega (
       arith,
       in_step_second _ _ _ at.loop-digit.invariant at.digit_at.ensures c.loop-digit-test.true (omega arith),
@@ -46,7 +46,7 @@ loop-digit-smaller c = omega (arith, within c.before.before)
 
 pub loop-digit-preserved : goal.loop-digit-preserved
 loop-digit-preserved c =
-    let at = c.before.before.before.before in
+    let at = c in
     in_step_more _ _ _ at.loop-digit.invariant at.digit_at.ensures c.loop-digit-test.true (omega arith)
     c.digit_at-digit-in-loop-digit.ensures
 

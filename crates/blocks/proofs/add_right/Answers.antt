@@ -31,8 +31,8 @@ added-right-requires c = (
 
 pub overflow_add-words-in-loop-j : goal.overflow_add-words-in-loop-j
 overflow_add-words-in-loop-j c =
-    let l = c.before.before.before.before.before in
-    let s = l.before.before.before.before in
+    let l = c in
+    let s = l in
     record {
       fits =
           adding_fits _ _ _ _ _ _ _ _ _ _ (omega arith) (omega arith) (omega arith) s.requires.5

@@ -11,7 +11,7 @@ loop-a-init c = (search rules, answering_begun _ _ _ _ _ _ c.write_lefts-count.e
 
 pub answer_right-requires : goal.answer_right-requires
 answer_right-requires c =
-    let w = c.before.before.before.before.before in (
+    let w = c in (
       search rules,
       search rules,
       search rules,
@@ -28,5 +28,5 @@ loop-a-preserved c = (
 
 pub returns : goal.returns
 returns c =
-    let w = c.before.before.before.before in
+    let w = c in
     block_done _ _ _ _ _ _ _ _ (omega arith) (omega arith) w.write_lefts-count.ensures c.loop-a.invariant.1

@@ -11,20 +11,20 @@ returns-then-own-a-eq0 c = answered_none _ _ _ _ _ c.if-own-a-eq0.true c.require
 
 pub fill-requires : goal.fill-requires
 fill-requires c =
-    let s = c.before.before.before.before in
+    let s = c in
     let h = seed_words_small s.args.n (omega arith) in
     let t = two_planes s.args.n s.requires.0 in
     search rules
 
 pub add_right-requires : goal.add_right-requires
 add_right-requires c =
-    let s = c.before.before.before.before.before.before.before.before in
+    let s = c in
     let h = seed_words_small s.args.n (omega arith) in
     search rules
 
 pub returns : goal.returns
 returns c =
-    let f = c.before.before.before.before.before.before.before in
-    let s = f.before.before.before.before.before in
+    let f = c in
+    let s = f in
     answered_some _ _ _ _ _ _ _ (omega arith) (omega arith) (omega arith) s.requires.4 f.fill.ensures
     c.add_right.ensures

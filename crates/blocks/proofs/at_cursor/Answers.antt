@@ -22,13 +22,13 @@ overflow_add-result-2 c =
 
 pub offset_bounds-words-m-3 : goal.offset_bounds-words-m-3
 offset_bounds-words-m-3 c =
-    let p = c.before.before.before.before in
+    let p = c in
     let h = cursor_inside _ _ _ p.power-m.ensures p.requires.2 c.if-words-m.false in
     search rules
 
 pub bounds-words-m-3 : goal.bounds-words-m-3
 bounds-words-m-3 c =
-    let p = c.before.before.before.before.before in
+    let p = c in
     let h = cursor_inside _ _ _ p.power-m.ensures p.requires.2 c.if-words-m.false in
     omega arith
 

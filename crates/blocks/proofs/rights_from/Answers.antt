@@ -9,7 +9,7 @@ use Rattle.blocks.proofs.rights_from.Goals as goal
 
 pub overflow_add-words : goal.overflow_add-words
 overflow_add-words c =
-    let a = c.before.before in
+    let a = c in
     let h = c.slice_known-then-at_cursor-1.given (cursor_at a.args.n + 1) in
     record {
       fits =
@@ -27,35 +27,35 @@ overflow_mul-result c =
 
 pub overflow_add-result-then-at_cursor : goal.overflow_add-result-then-at_cursor
 overflow_add-result-then-at_cursor c =
-    let a = c.before.before in
+    let a = c in
     let i = at_cursor_inside _ _ _ _ a.power-m.ensures
     a.requires.3 (a.at_cursor.ensures c.if-at_cursor.true) in
     search rules
 
 pub overflow_add-result-then-at_cursor-2 : goal.overflow_add-result-then-at_cursor-2
 overflow_add-result-then-at_cursor-2 c =
-    let a = c.before.before in
+    let a = c in
     let i = at_cursor_inside _ _ _ _ a.power-m.ensures
     a.requires.3 (a.at_cursor.ensures c.if-at_cursor.true) in
     search rules
 
 pub offset_bounds-words-m-then-at_cursor-2 : goal.offset_bounds-words-m-then-at_cursor-2
 offset_bounds-words-m-then-at_cursor-2 c =
-    let a = c.before.before in
+    let a = c in
     let i = at_cursor_inside _ _ _ _ a.power-m.ensures
     a.requires.3 (a.at_cursor.ensures c.if-at_cursor.true) in
     search rules
 
 pub bounds-words-m-then-at_cursor-2 : goal.bounds-words-m-then-at_cursor-2
 bounds-words-m-then-at_cursor-2 c =
-    let a = c.before.before.before.before in
+    let a = c in
     let i = at_cursor_inside _ _ _ _ a.power-m.ensures
     a.requires.3 (a.at_cursor.ensures c.if-at_cursor.true) in
     simp length-set (omega arith)
 
 pub returns-then-at_cursor : goal.returns-then-at_cursor
 returns-then-at_cursor c =
-    let a = c.before.before.before.before in
+    let a = c in
     cursor_rights _ _ _ _ _ (omega arith) a.power-m.ensures
     a.requires.3 (a.at_cursor.ensures c.if-at_cursor.true)
 
@@ -67,7 +67,7 @@ bounds-words-m-4 c = simp length-set (omega arith)
 
 pub returns : goal.returns
 returns c =
-    let a = c.before.before.before.before in
-    let p = a.before.before.before.before.before in
+    let a = c in
+    let p = a in
     block_rights _ _ _ _ _ _ _ (omega arith) p.power-m.ensures (omega arith) p.requires.3.one
     a.answer_block-count.ensures

@@ -30,22 +30,20 @@ overflow_add-at c =
 pub bounds-words-at-in-loop-j : goal.bounds-words-at-in-loop-j
 bounds-words-at-in-loop-j c = simp length-set (omega arith)
 
-pub loop-j-preserved : goal.loop-j-preserved
-loop-j-preserved c =
-    let l = c.before.before.before.before.before in
-    let e : next_of l.args.n (members_of l.loop-j.x)
-    ≡ Set c.y-1.given.0.0 = cc in
-    let y = next_below _ _ _ (omega arith) e in
-    (omega arith, lefts_more _ _ _ _ _ _ _ _ (omega arith) (omega arith) y l.loop-j.invariant.1)
-
 pub returns-in-Nothing : goal.returns-in-Nothing
 returns-in-Nothing c =
-    let l = c.before.before.before.before in
+    let l = c in
     let i = l.loop-j.invariant.1 in
     lefts_done _ _ _ _ _ _ _ (omega arith) (omega arith) l.room-pairs.ensures
     (lefts_more _ _ _ _ _ _ _ _ (omega arith) (omega arith) i.next i)
 
 pub returns : goal.returns
 returns c =
-    let l = c.before in
+    let l = c in
     lefts_done _ _ _ _ _ _ _ (omega arith) (omega arith) l.room-pairs.ensures l.loop-j.invariant.1
+
+pub loop-j-preserved : goal.loop-j-preserved
+loop-j-preserved c =
+    let e : next_of c.args.n (members_of c.loop-j.x) ≡ Set c.in-Set.y = cc in
+    let y = next_below _ _ _ (omega arith) e in
+    (omega arith, lefts_more _ _ _ _ _ _ _ _ (omega arith) (omega arith) y c.loop-j.invariant.1)

@@ -13,7 +13,7 @@ bounds-rows-0 c = omega arith
 
 pub loop-i-init : goal.loop-i-init
 loop-i-init c =
-    let d = c.before in
+    let d = c in
     (d.requires.0, omega arith, rows_begun d.args.rows.now _ d.requires.1 c.of_no_column-none.ensures)
 
 pub overflow_cast-row : goal.overflow_cast-row

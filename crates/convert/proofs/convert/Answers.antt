@@ -33,7 +33,7 @@ returns-then-code-ne0 c =
 
 pub full_code-full-requires : goal.full_code-full-requires
 full_code-full-requires c =
-    let k = c.before in
+    let k = c in
     let a = k.args in
     let fit = sym k.text_code-code.ensures ∙ k.if-code-ne0.false in
     let ok = text_accepted a.shape.now a.text.now fit in
@@ -50,7 +50,7 @@ refusal-requires-then-full-ne0 c =
 pub returns-then-full-ne0 : goal.returns-then-full-ne0
 unfolding convert_meaning
 returns-then-full-ne0 c =
-    let k = c.before.before.before.before in
+    let k = c in
     let a = k.args in
     let fit = sym k.text_code-code.ensures ∙ k.if-code-ne0.false in
     let ok = text_accepted a.shape.now a.text.now fit in
@@ -63,8 +63,8 @@ returns-then-full-ne0 c =
 
 pub size-bytes-requires : goal.size-bytes-requires
 size-bytes-requires c =
-    let b = c.before in
-    let k = b.before.before.before in
+    let b = c in
+    let k = b in
     let a = k.args in
     let fit = sym k.text_code-code.ensures ∙ k.if-code-ne0.false in
     let ok = text_accepted a.shape.now a.text.now fit in
@@ -75,8 +75,8 @@ size-bytes-requires c =
 
 pub overflow_cast-bytes : goal.overflow_cast-bytes
 overflow_cast-bytes c =
-    let b = c.before.before in
-    let k = b.before.before.before in
+    let b = c in
+    let k = b in
     let a = k.args in
     let fit = sym k.text_code-code.ensures ∙ k.if-code-ne0.false in
     let ok = text_accepted a.shape.now a.text.now fit in
@@ -87,8 +87,8 @@ overflow_cast-bytes c =
 
 pub write-requires : goal.write-requires
 write-requires c =
-    let b = c.before.before.before.before in
-    let k = b.before.before.before in
+    let b = c in
+    let k = b in
     let a = k.args in
     let fit = sym k.text_code-code.ensures ∙ k.if-code-ne0.false in
     let ok = text_accepted a.shape.now a.text.now fit in
@@ -100,8 +100,8 @@ write-requires c =
 pub returns : goal.returns
 unfolding convert_meaning
 returns c =
-    let b = c.before.before.before.before.before.before.before in
-    let k = b.before.before.before in
+    let b = c in
+    let k = b in
     let a = k.args in
     let fit = sym k.text_code-code.ensures ∙ k.if-code-ne0.false in
     let ok = text_accepted a.shape.now a.text.now fit in

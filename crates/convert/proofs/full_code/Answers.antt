@@ -12,12 +12,12 @@ returns-then-many-ne0 c = too_many _ _ _ c.many_code-many.ensures c.if-many-ne0.
 
 pub size-requires : goal.size-requires
 size-requires c =
-    let a = c.before.before.before.before.before in
+    let a = c in
     (a.requires.0, few_counted _ _ _ a.requires.0 a.requires.1 (sym c.many_code-many.ensures ∙ c.if-many-ne0.false))
 
 pub returns-then-room-size : goal.returns-then-room-size
 returns-then-room-size c =
-    let a = c.before.before.before.before.before.before.before in
+    let a = c in
     let few = sym c.many_code-many.ensures ∙ c.if-many-ne0.false in
     let size = c.size.ensures
     ∙ size_converted a.args.shape.now a.args.text.now a.args.counts.now
@@ -26,7 +26,7 @@ returns-then-room-size c =
 
 pub returns : goal.returns
 returns c =
-    let a = c.before.before.before.before.before.before.before in
+    let a = c in
     let few = sym c.many_code-many.ensures ∙ c.if-many-ne0.false in
     let size = c.size.ensures
     ∙ size_converted a.args.shape.now a.args.text.now a.args.counts.now

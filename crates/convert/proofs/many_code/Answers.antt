@@ -14,17 +14,17 @@ loop-table-init c = (none_below_zero _ _, search rules, search rules)
 
 pub offset_bounds-counts-table : goal.offset_bounds-counts-table
 offset_bounds-counts-table c =
-    let a = c.before.before.before.before.before.before in
+    let a = c in
     omega (arith, accepted_tables a.args.shape.now a.requires.0)
 
 pub bounds-counts-table : goal.bounds-counts-table
 bounds-counts-table c =
-    let a = c.before.before.before.before.before.before in
+    let a = c in
     omega (arith, accepted_tables a.args.shape.now a.requires.0)
 
 pub returns-then-counts-table-gt-ROWS : goal.returns-then-counts-table-gt-ROWS
 returns-then-counts-table-gt-ROWS c =
-    let a = c.before.before.before.before.before.before.before.before in
+    let a = c in
     let table = c.loop-table.table in
     let h = accepted_tables a.args.shape.now a.requires.0 in
     let k = a.requires.1.each table (omega arith) in
@@ -39,7 +39,7 @@ loop-table-smaller c = omega arith
 
 pub loop-table-preserved : goal.loop-table-preserved
 loop-table-preserved c =
-    let a = c.before.before.before.before.before.before.before.before in
+    let a = c in
     let table = c.loop-table.table in
     let h = accepted_tables a.args.shape.now a.requires.0 in
     let k = a.requires.1.each table (omega arith) in (

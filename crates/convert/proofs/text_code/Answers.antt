@@ -29,7 +29,7 @@ returns-then-unfit-ne0 c =
 
 pub returns-then-not-document-2 : goal.returns-then-not-document-2
 returns-then-not-document-2 c =
-    let b = c.before.before.before.before.before in
+    let b = c in
     let a = b.args in
     let sound = sym b.check_code-code.ensures ∙ b.if-code-ne0.false in
     let form = good_text a.text.now a.shape.now
@@ -40,7 +40,7 @@ returns-then-not-document-2 c =
 
 pub returns : goal.returns
 returns c =
-    let b = c.before.before.before.before.before in
+    let b = c in
     let a = b.args in
     let sound = sym b.check_code-code.ensures ∙ b.if-code-ne0.false in
     let form = good_text a.text.now a.shape.now

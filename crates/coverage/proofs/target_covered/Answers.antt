@@ -39,7 +39,7 @@ backed_plane-requires c =
 
 pub close_lefts-requires : goal.close_lefts-requires
 close_lefts-requires c =
-    let wide = c.before.before.before.before.before in
+    let wide = c in
     let n = wide.visible-n.ensures in
     let m = wide.wide-m.ensures in
     let s = wide.before.before.before.before.before in (
@@ -50,15 +50,15 @@ close_lefts-requires c =
 
 pub loop-a-init : goal.loop-a-init
 loop-a-init c =
-    let v = c.before.before.before.before.before.before.before.before.before in
-    let s = v.before.before.before.before in
+    let v = c in
+    let s = v in
     let l = inherited_visible s.args.cat.now s.args.target in
     passed_none (omega (arith, v.visible-n.ensures, c.inherited-a.ensures))
 
 pub right_covered-requires : goal.right_covered-requires
 right_covered-requires c =
-    let keys = c.before.before.before.before.before.before.before in
-    let wide = keys.before.before.before.before.before in
+    let keys = c in
+    let wide = keys in
     let n = wide.visible-n.ensures in
     let m = wide.wide-m.ensures in
     let s = wide.before.before.before.before.before in
@@ -76,10 +76,10 @@ right_covered-requires c =
 
 pub returns-then-not-right_covered : goal.returns-then-not-right_covered
 returns-then-not-right_covered c =
-    let first = c.before.before.before.before.before.before.before in
-    let backed = first.before.before.before.before.before in
-    let v = backed.before.before.before in
-    let s = v.before.before.before.before in
+    let first = c in
+    let backed = first in
+    let v = backed in
+    let s = v in
     let all = rights_covered_is s.args.cat.now s.requires.accepted s.args.target _ _ s.requires.target_bound
     v.visible-n.ensures first.inherited-a.ensures _ _ in
     passed_no all (omega arith) c.loop-a.invariant
@@ -88,8 +88,8 @@ returns-then-not-right_covered c =
 
 pub overflow_add-a : goal.overflow_add-a
 overflow_add-a c =
-    let first = c.before.before.before.before.before.before.before in
-    let v = first.before.before.before.before.before.before.before.before in
+    let first = c in
+    let v = first in
     let s = v.before.before.before.before in
     omega (arith, few s, v.visible-n.ensures)
 
@@ -98,10 +98,10 @@ loop-a-smaller c = omega arith
 
 pub loop-a-preserved : goal.loop-a-preserved
 loop-a-preserved c =
-    let first = c.before.before.before.before.before.before.before in
-    let backed = first.before.before.before.before.before in
-    let v = backed.before.before.before in
-    let s = v.before.before.before.before in
+    let first = c in
+    let backed = first in
+    let v = backed in
+    let s = v in
     passed_more (omega arith)
     (said_yes (c.right_covered.ensures (view s.args.cat.now s.args.target)
     (sym v.visible-n.ensures) backed.backed_plane.ensures) (ap not c.if-not-right_covered.false))
@@ -109,9 +109,9 @@ loop-a-preserved c =
 
 pub returns : goal.returns
 returns c =
-    let first = c.before.before.before in
-    let v = first.before.before.before.before.before.before.before.before in
-    let s = v.before.before.before.before in
+    let first = c in
+    let v = first in
+    let s = v in
     let all = rights_covered_is s.args.cat.now s.requires.accepted s.args.target _ _ s.requires.target_bound
     v.visible-n.ensures first.inherited-a.ensures _ _ in
     passed_yes all (omega arith) c.loop-a.invariant

@@ -18,7 +18,7 @@ returns-then-end-eq0 c =
 pub returns : goal.returns
 unfolding end_at
 returns c =
-    let d = c.before.before.before.before in
+    let d = c in
     some_read _ d.word_at-start.ensures d.if-start-eq0.false
     (some_read _ d.word_at-end.ensures c.if-end-eq0.false
     (read_at (expect d.args.s.now greater) c.expect.ensures

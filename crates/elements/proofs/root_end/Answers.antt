@@ -22,13 +22,13 @@ returns-then-inside-eq0 c =
 
 pub returns-then-last-eq0 : goal.returns-then-last-eq0
 returns-then-last-eq0 c =
-    let d = c.before.before.before in
+    let d = c in
     rest_bad _ _ _ _ d.before.before.before.byte_at_lem.ensures d.if-byte_at-eq47.false
     d.expect-inside.ensures d.if-inside-eq0.false c.content-last.ensures c.if-last-eq0.true
 
 pub returns : goal.returns
 returns c =
-    let d = c.before.before.before.before.before in
+    let d = c in
     rest_filled _ _ _ _ d.before.before.before.byte_at_lem.ensures d.if-byte_at-eq47.false
     d.expect-inside.ensures d.if-inside-eq0.false c.content-last.ensures
     c.if-last-eq0.false c.end_at_lem.ensures

@@ -17,7 +17,7 @@ returns-then-end-eq0 c =
 pub returns-then-last-eq0 : goal.returns-then-last-eq0
 unfolding tag_at
 returns-then-last-eq0 c =
-    let d = c.before.before.before in
+    let d = c in
     some_read _ d.word_at-name.ensures d.if-name-eq0.false
     (some_read _ d.numeral_at-end.ensures d.if-end-eq0.false
     (none_read _ c.attributes_end-last.ensures c.if-last-eq0.true))
@@ -25,8 +25,8 @@ returns-then-last-eq0 c =
 pub returns-then-not-is_distinct : goal.returns-then-not-is_distinct
 unfolding tag_at
 returns-then-not-is_distinct c =
-    let e = c.before.before.before in
-    let d = e.before.before in
+    let e = c in
+    let d = e in
     some_read _ d.word_at-name.ensures d.if-name-eq0.false
     (some_read _ d.numeral_at-end.ensures d.if-end-eq0.false
     (some_read _ e.attributes_end-last.ensures e.if-last-eq0.false
@@ -35,8 +35,8 @@ returns-then-not-is_distinct c =
 pub returns : goal.returns
 unfolding tag_at
 returns c =
-    let e = c.before.before.before.before in
-    let d = e.before.before in
+    let e = c in
+    let d = e in
     some_read _ d.word_at-name.ensures d.if-name-eq0.false
     (some_read _ d.numeral_at-end.ensures d.if-end-eq0.false
     (some_read _ e.attributes_end-last.ensures e.if-last-eq0.false

@@ -12,7 +12,7 @@ returns-then-s-t c =
 
 pub returns-then-e-f-2 : goal.returns-then-e-f-2
 returns-then-e-f-2 c =
-    let d = c.before.before.before.before.before.before in
+    let d = c in
     by_left _ _ (omega arith) d.size-s.ensures d.size-t.ensures (omega arith) (λ z. omega arith)
 
 pub returns : goal.returns

@@ -15,7 +15,7 @@ loop-k-init c = (none_below_zero _ _, search rules, search rules, search rules, 
 pub returns-then-code-ne0 : goal.returns-then-code-ne0
 returns-then-code-ne0 c =
     let now-at = c.loop-k in
-    let table = c.before.before.before.before.before.before.before in
+    let table = c in
     let e =
     row_code_is _ _ now-at.k c.row_code-code.ensures c.u16_at.ensures now-at.invariant.3
     table.rows-above.ensures table.parent-p.ensures in
@@ -24,7 +24,7 @@ returns-then-code-ne0 c =
 pub loop-k-preserved : goal.loop-k-preserved
 loop-k-preserved c =
     let now-at = c.loop-k in
-    let table = c.before.before.before.before.before.before.before in
+    let table = c in
     let args = table.args in
     let e =
     row_code_is _ _ now-at.k c.row_code-code.ensures c.u16_at.ensures now-at.invariant.3

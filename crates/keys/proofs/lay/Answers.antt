@@ -153,7 +153,7 @@ power-requires c = omega (arith, few c.before.before.before.before)
 
 pub nonzero_rem-set : goal.nonzero_rem-set
 nonzero_rem-set c =
-    let i = c.before.before.before.before.before in
+    let i = c in
     omega (arith, c.power.ensures, pow_pos (i.loop-reached.above - i.index-c.result))
 
 pub returns-then-set-power-eq0 : goal.returns-then-set-power-eq0
@@ -184,8 +184,8 @@ some : (c : Else-set-power-eq0)
     l.args.set % 2 ^ (l.loop-reached.above - i.index-c.result) ≡ 0
     → ⊥
 some c e =
-    let i = c.before.before.before.before.before in
-    let l = i.before.before.before in
+    let i = c in
+    let l = i in
     c.if-set-power-eq0.false (ap (λ (x : ℕ). l.args.set % x)
     c.power.ensures ∙ e)
 

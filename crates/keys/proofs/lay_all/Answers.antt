@@ -7,7 +7,7 @@ use Rattle.keys.proofs.lay_all.Goals as goal
 
 pub power-requires : goal.power-requires
 power-requires c =
-    let s = c.before.before in
+    let s = c in
     omega (arith, s.requires.n_value, accepted_visible s.args.cat.now s.requires.accepted s.args.target s.requires.target_bound)
 
 pub overflow_sub-power : goal.overflow_sub-power
@@ -15,7 +15,7 @@ overflow_sub-power c = omega (arith, c.power.ensures, pow_pos c.args.n)
 
 pub returns : goal.returns
 returns c =
-    let s = c.before.before.before.before.before in
+    let s = c in
     laid_all s.args.cat.now s.args.target s.args.n c.power.result _ s.requires.accepted
     s.requires.target_bound s.requires.n_value
     c.power.ensures c.lay.ensures.1

@@ -26,14 +26,14 @@ fill_words-requires c =
 
 pub group-requires : goal.group-requires
 group-requires c =
-    let l = c.before.before.before.before.before.before.before in record {
+    let l = c in record {
       end_le_row_bound = l.requires.o_bound.2;
       leaders_len = l.loop-j.invariant.2;
     }
 
 pub put_keys-requires : goal.put_keys-requires
 put_keys-requires c =
-    let i = c.before.before.before.before.before.before.before.before.before in
+    let i = c in
     let h = i.requires in
     let v = i.loop-j.invariant in
     (omega (arith, v.0, i.loop-j-test.true), h.0.2, v.3.same_length ∙ h.0.3)
@@ -42,7 +42,7 @@ pub loop-j-preserved : goal.loop-j-preserved
 loop-j-preserved c =
     let g = c.group.ensures in
     let w = c.fill_words.ensures in
-    let i = c.before.before.before.before.before.before.before.before.before.before in
+    let i = c in
     let l = i.loop-j in (
       omega arith,
       w.long,

@@ -17,13 +17,13 @@ loop-target-init c =
 
 pub power-sum-requires : goal.power-sum-requires
 power-sum-requires c =
-    let start = c.before.before.before.before.before.before in
+    let start = c in
     omega
     (arith, accepted_visible start.args.cat.now start.requires c.loop-target.target (omega arith))
 
 pub overflow_add-sum : goal.overflow_add-sum
 overflow_add-sum c =
-    let start = c.before.before.before.before.before.before.before in
+    let start = c in
     let few = accepted_tables start.args.cat.now start.requires in
     let loop = c.loop-target in
     let small = accepted_sets start.args.cat.now start.requires loop.target (omega arith) in
@@ -32,7 +32,7 @@ overflow_add-sum c =
 
 pub loop-target-preserved : goal.loop-target-preserved
 loop-target-preserved c =
-    let start = c.before.before.before.before.before.before.before in
+    let start = c in
     let loop = c.loop-target in
     let small = accepted_sets start.args.cat.now start.requires loop.target (omega arith) in
     let n = c.tables-n.result in

@@ -10,7 +10,7 @@ overflow_sub-power c = omega (arith, c.power.ensures, pow_pos c.args.n)
 
 pub returns-then-few-power : goal.returns-then-few-power
 returns-then-few-power c =
-    let s = c.before.before.before.before.before.before in
+    let s = c in
     let a = s.args in
     let f = c.numbered_line.ensures in record {
       line_of = line_all a.keys.now a.bytes.now a.few a.x a.n a.end 0 s.requires.n_le_column_bound.0 (omega arith)
@@ -21,7 +21,7 @@ returns-then-few-power c =
 
 pub returns : goal.returns
 returns c =
-    let s = c.before.before.before.before.before.before.before.before in
+    let s = c in
     let a = s.args in
     let f = c.numbered_line.ensures in record {
       line_of = line_all a.keys.now a.bytes.now a.few a.x a.n a.end a.n s.requires.n_le_column_bound.0 (le_refl _)

@@ -14,7 +14,7 @@ loop-x-init c = (omega arith, λ q l. absurd (omega arith))
 
 pub is_covered-requires : goal.is_covered-requires
 is_covered-requires c =
-    let s = c.before.before.before.before.before.before.before.before in
+    let s = c in
     let h = pow_mono {i = s.args.n} {j = s.args.m} (omega arith) in
     let e = c.power-end.ensures in
     (s.requires.0, s.requires.1, s.requires.2, s.requires.3, omega arith, omega arith)
@@ -29,7 +29,7 @@ loop-x-smaller c = omega arith
 
 pub loop-x-preserved : goal.loop-x-preserved
 loop-x-preserved c =
-    let s = c.before.before.before.before.before.before.before.before.before.before in
+    let s = c in
     let x = c.loop-x.x in
     let Covers : ℕ → Type 0 =
     CoveredBy s.args.backed.now s.args.keys.now s.args.lefts.now s.args.sets.now s.args.m

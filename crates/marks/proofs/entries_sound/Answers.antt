@@ -12,7 +12,7 @@ loop-rest-init c = (testing_begun c.requires.5, omega arith)
 
 pub is_sound-requires : goal.is_sound-requires
 is_sound-requires c =
-    let s = c.before.before.before.before.before.before.before.before in
+    let s = c in
     let fine = testing_fine (entries_next _ _ _ (omega arith)) c.loop-rest.invariant.0 in
     (s.requires.0, s.requires.1, s.requires.2, s.requires.3, fine, omega arith)
 

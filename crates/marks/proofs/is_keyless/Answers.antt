@@ -6,11 +6,11 @@ use Rattle.marks.proofs.is_keyless.Goals as goal
 
 pub bit_at-requires : goal.bit_at-requires
 bit_at-requires c =
-    let s = c.before.before.before.before in
+    let s = c in
     place_inside s.args.m _ _ s.requires.0 (omega (arith, c.mirror.ensures))
 
 pub returns : goal.returns
 returns c =
-    let s = c.before.before.before.before.before in
+    let s = c in
     unmarked_keyless s.args.keys.now s.args.m _ s.args.x c.if-right-eq-ROW.false
     (mirror_read s.args.keys.now s.args.m s.args.x c.mirror.ensures c.bit_at.ensures)

@@ -42,14 +42,14 @@ returns-then-not-is_for c =
 
 pub bit_at-requires : goal.bit_at-requires
 bit_at-requires c =
-    let read = c.before.before in
+    let read = c in
     let s = read.before.before.before.before.before.before.before.before in
     let for = for_two s read.is_for.ensures (ap not read.if-not-is_for.false) in
     place_inside s.args.m _ _ s.requires.0 (left_below s read.entry_from-e.ensures for)
 
 pub returns-then-bit_at-eq0 : goal.returns-then-bit_at-eq0
 returns-then-bit_at-eq0 c =
-    let read = c.before.before.before.before in
+    let read = c in
     let s = read.before.before.before.before.before.before.before.before in
     let for = for_two s read.is_for.ensures (ap not read.if-not-is_for.false) in
     says_no (unbacked_entry s.args.backed.now s.args.broken.now s.args.keys.now s.args.lefts.now
@@ -57,14 +57,14 @@ returns-then-bit_at-eq0 c =
 
 pub bit_at-requires-2 : goal.bit_at-requires-2
 bit_at-requires-2 c =
-    let read = c.before.before.before.before in
+    let read = c in
     let s = read.before.before.before.before.before.before.before.before in
     let for = for_two s read.is_for.ensures (ap not read.if-not-is_for.false) in
     place_inside s.args.m _ _ s.requires.1 (left_below s read.entry_from-e.ensures for)
 
 pub returns-then-bit_at-ne0 : goal.returns-then-bit_at-ne0
 returns-then-bit_at-ne0 c =
-    let read = c.before.before.before.before.before.before in
+    let read = c in
     let s = read.before.before.before.before.before.before.before.before in
     let for = for_two s read.is_for.ensures (ap not read.if-not-is_for.false) in
     says_no (broken_entry s.args.backed.now s.args.broken.now s.args.keys.now s.args.lefts.now
@@ -72,14 +72,14 @@ returns-then-bit_at-ne0 c =
 
 pub is_keyless-requires : goal.is_keyless-requires
 is_keyless-requires c =
-    let read = c.before.before.before.before.before.before in
+    let read = c in
     let s = read.before.before.before.before.before.before.before.before in
     let for = for_two s read.is_for.ensures (ap not read.if-not-is_for.false) in
     (s.requires.2, left_below s read.entry_from-e.ensures for)
 
 pub returns-then-not-is_keyless : goal.returns-then-not-is_keyless
 returns-then-not-is_keyless c =
-    let read = c.before.before.before.before.before.before.before.before in
+    let read = c in
     let s = read.before.before.before.before.before.before.before.before in
     let for = for_two s read.is_for.ensures (ap not read.if-not-is_for.false) in
     says_no (keyed_entry s.args.backed.now s.args.broken.now s.args.keys.now s.args.lefts.now
@@ -87,15 +87,15 @@ returns-then-not-is_keyless c =
 
 pub is_alone-requires : goal.is_alone-requires
 is_alone-requires c =
-    let read = c.before.before.before.before.before.before.before.before in
+    let read = c in
     let s = read.before.before.before.before.before.before.before.before in
     let for = for_two s read.is_for.ensures (ap not read.if-not-is_for.false) in
     (s.requires.3, left_below s read.entry_from-e.ensures for)
 
 pub returns : goal.returns
 returns c =
-    let keyless = c.before.before.before in
-    let read = keyless.before.before.before.before.before.before in
+    let keyless = c in
+    let read = keyless in
     let s = read.before.before.before.before.before.before.before.before in
     let for = for_two s read.is_for.ensures (ap not read.if-not-is_for.false) in
     unbroken_entry s.args.backed.now s.args.broken.now s.args.keys.now s.args.lefts.now

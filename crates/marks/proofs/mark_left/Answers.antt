@@ -17,7 +17,7 @@ returns-then-not-is_for c =
 
 pub mirror-place-requires : goal.mirror-place-requires
 mirror-place-requires c =
-    let s = c.before.before.before.before.before.before.before in
+    let s = c in
     let a = s.args in
     let is = entry_for a.list.now a.at a.target a.right c.is_for.ensures in
     let l = s.requires.1 (said_yes is (ap not c.if-not-is_for.false)) in
@@ -26,8 +26,8 @@ mirror-place-requires c =
 
 pub mark-requires : goal.mark-requires
 mark-requires c =
-    let read = c.before.before.before.before in
-    let s = read.before.before.before.before.before in
+    let read = c in
+    let s = read in
     let a = s.args in
     let is = entry_for a.list.now a.at a.target a.right read.is_for.ensures in
     let l = s.requires.1 (said_yes is (ap not read.if-not-is_for.false)) in
@@ -36,7 +36,7 @@ mark-requires c =
 
 pub returns : goal.returns
 returns c =
-    let read = c.before.before.before.before.before.before.before in
+    let read = c in
     let a = read.args in
     let is = entry_for a.list.now a.at a.target a.right read.is_for.ensures in
     let e = ap (λ (e : Entry). mirror a.m e.left) read.entry_from-e.ensures in

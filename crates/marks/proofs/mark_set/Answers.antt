@@ -16,8 +16,8 @@ returns-then-not-is_for c =
 
 pub mark-requires : goal.mark-requires
 mark-requires c =
-    let read = c.before.before.before in
-    let s = read.before.before.before.before.before in
+    let read = c in
+    let s = read in
     let a = s.args in
     let is = record_for a.bytes.now a.at a.target a.right read.is_for.ensures in
     let l = s.requires.1 (said_yes is (ap not read.if-not-is_for.false)) in
@@ -26,7 +26,7 @@ mark-requires c =
 
 pub returns : goal.returns
 returns c =
-    let read = c.before.before.before.before.before.before in
+    let read = c in
     let a = read.args in
     let is = record_for a.bytes.now a.at a.target a.right read.is_for.ensures in
     marked_for _ _ _ _ (said_yes is (ap not read.if-not-is_for.false))

@@ -11,7 +11,7 @@ pub write_step-requires : goal.write_step-requires
 write_step-requires c = (search rules, c.requires.room c.if-s.true)
 
 pub returns-then-s : goal.returns-then-s
-returns-then-s c = let a = c.before.before.before.before.before.before.before in
+returns-then-s c = let a = c in
     let y = c.if-s.true in
     let w = c.write_step.ensures in
     record {
@@ -20,7 +20,7 @@ returns-then-s c = let a = c.before.before.before.before.before.before.before in
     }
 
 pub returns-then-not-fine_after : goal.returns-then-not-fine_after
-returns-then-not-fine_after c = let a = c.before.before.before.before.before.before.before in
+returns-then-not-fine_after c = let a = c in
     let z = c.if-s.false in
     let f = c.fine_after in
     record {
@@ -35,7 +35,7 @@ returns-then-not-fine_after c = let a = c.before.before.before.before.before.bef
     }
 
 pub returns-then-at-k : goal.returns-then-at-k
-returns-then-at-k c = let a = c.before.before.before.before.before.before.before.before in
+returns-then-at-k c = let a = c in
     let z = c.if-s.false in
     let f = c.fine_after in
     record {
@@ -52,7 +52,7 @@ returns-then-at-k c = let a = c.before.before.before.before.before.before.before
     }
 
 pub returns : goal.returns
-returns c = let a = c.before.before.before.before.before.before.before.before.before.before.before in
+returns c = let a = c in
     let z = c.if-s.false in
     let f = c.fine_after in
     let s = c.begin_writing in

@@ -19,7 +19,7 @@ given : (c : lts.After-known-told (list-filled-reads.Asked, list-filled-reads.Le
     c.answer-1.given.0.1.1.0
     c.list_filled-filled.result.run
 given c =
-    let start = c.before.before.before.before.before.before.before.before.before.before.before in
+    let start = c in
     let loop = c.loop-from in
     let call = c.list_filled-filled in
     ran start.args.cat.now start.args.last start.requires.listable loop.from (omega arith) loop.work-1
@@ -28,7 +28,7 @@ given c =
 
 pub overflow_add-sum : goal.overflow_add-sum
 overflow_add-sum c =
-    let start = c.before.before.before.before.before.before.before.before.before.before.before.before in
+    let start = c in
     let more = counted_more start.args.cat.now start.args.last start.requires.listable _ _ _ _ (given c.before) in
     omega (arith, counted_few start.args.cat.now start.args.last start.requires.listable start.args.place)
 
@@ -37,13 +37,13 @@ loop-from-smaller c = omega (arith, (given c.before).in_range, (given c.before).
 
 pub loop-from-preserved : goal.loop-from-preserved
 loop-from-preserved c =
-    let start = c.before.before.before.before.before.before.before.before.before.before.before.before in
+    let start = c in
     let more = counted_more start.args.cat.now start.args.last start.requires.listable _ _ _ _ (given c.before) in
     (search rules, (given c.before).in_range, omega arith)
 
 pub returns-in-Refused : goal.returns-in-Refused
 returns-in-Refused c =
-    let start = c.before.before.before.before.before.before.before.before.before.before.before in
+    let start = c in
     let loop = c.loop-from in
     let call = c.list_filled-filled in
     absurd
@@ -53,7 +53,7 @@ returns-in-Refused c =
 
 pub returns : goal.returns
 returns c =
-    let start = c.before.before.before.before.before in
+    let start = c in
     omega (
       arith,
       counted_none start.args.cat.now start.args.last start.requires.listable c.loop-from.from

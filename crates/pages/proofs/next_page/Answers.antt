@@ -19,7 +19,7 @@ given : (c : lts.After-put-run-arg
     c.answer-1.given.0.1.1.0
     c.list_filled-filled.result.run
 given c =
-    let start = c.before.before.before.before.before.before.before.before.before.before.before in
+    let start = c in
     let call = c.list_filled-filled in
     ran start.args.cat.now start.args.page.last start.requires.listable start.args.page.place (omega arith)
     start.args.work.now
@@ -43,7 +43,7 @@ returns-in-Listed c =
 
 pub returns-in-Refused : goal.returns-in-Refused
 returns-in-Refused c =
-    let start = c.before.before.before.before.before.before.before.before.before.before in
+    let start = c in
     let call = c.list_filled-filled in
     absurd
     (filled_answers start.args.cat.now start.args.page.last start.requires.listable start.args.page.place

@@ -25,12 +25,12 @@ nonzero_rem-result c = power_some _ _ c.power.ensures
 
 pub returns-then-leaders_of-eq0 : goal.returns-then-leaders_of-eq0
 returns-then-leaders_of-eq0 c =
-    let s = c.before.before.before.before in
+    let s = c in
     all _ _ _ _ _ _ _ _ s.requires.n_le_column_bound c.leaders_of.ensures c.if-leaders_of-eq0.true c.power.ensures
 
 pub given_members-requires : goal.given_members-requires
 given_members-requires c =
-    let s = c.before.before.before.before in
+    let s = c in
     record {
       n_le_column_bound = s.requires.n_le_column_bound;
       end_le_row_bound = s.requires.end_le_row_bound;
@@ -39,7 +39,7 @@ given_members-requires c =
 
 pub returns : goal.returns
 returns c =
-    let s = c.before.before.before.before.before in
+    let s = c in
     given_some _ _ _ _ _ _ s.requires.n_le_column_bound c.leaders_of.ensures _ _
     c.if-leaders_of-eq0.false
     c.given_members.ensures

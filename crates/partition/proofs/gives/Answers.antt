@@ -10,20 +10,20 @@ pub loop-q-init : goal.loop-q-init
 loop-q-init c = (omega arith, λ q l. absurd (omega arith))
 
 pub overflow_cast-p : goal.overflow_cast-p
-overflow_cast-p c = let s = c.before.before.before in omega (arith, s.requires.back s.loop-q.q (omega arith))
+overflow_cast-p c = let s = c in omega (arith, s.requires.back s.loop-q.q (omega arith))
 
 pub overflow_add-at : goal.overflow_add-at
-overflow_add-at c = let s = c.before.before.before in omega (arith, s.requires.back s.loop-q.q (omega arith))
+overflow_add-at c = let s = c in omega (arith, s.requires.back s.loop-q.q (omega arith))
 
 pub offset_bounds-keys-at : goal.offset_bounds-keys-at
-offset_bounds-keys-at c = let s = c.before.before.before in omega (arith, s.requires.back s.loop-q.q (omega arith))
+offset_bounds-keys-at c = let s = c in omega (arith, s.requires.back s.loop-q.q (omega arith))
 
 pub bounds-keys-at : goal.bounds-keys-at
-bounds-keys-at c = let s = c.before.before.before in omega (arith, s.requires.back s.loop-q.q (omega arith))
+bounds-keys-at c = let s = c in omega (arith, s.requires.back s.loop-q.q (omega arith))
 
 pub returns-then-keys-at : goal.returns-then-keys-at
 returns-then-keys-at c =
-    let s = c.before.before.before.before.before.before in
+    let s = c in
     (λ e. absurd (false_is refl (true_is e)), λ f. absurd (c.if-keys-at.true (f s.loop-q.q (omega arith))))
 
 pub loop-q-preserved : goal.loop-q-preserved

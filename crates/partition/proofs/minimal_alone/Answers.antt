@@ -64,19 +64,19 @@ loop-k-init c = begun _ _ _ _ _
 
 pub returns-then-kept-eq0 : goal.returns-then-kept-eq0
 returns-then-kept-eq0 c =
-    let l = c.before.before in
-    let s = l.before.before.before in
+    let l = c in
+    let s = l in
     ended _ _ _ _ _ _ _ _ _ s.requires.n_le_column_bound s.requires.x_bound s.requires.own_bound l.lacking.ensures
     l.given-kept.ensures l.loop-k.invariant c.if-kept-eq0.true
 
 pub loop-k-preserved : goal.loop-k-preserved
 loop-k-preserved c =
-    let l = c.before.before.before in
+    let l = c in
     more _ _ _ _ _ _ _ _ l.loop-k.invariant c.loop-k-test.true c.needing-kept.ensures
 
 pub returns : goal.returns
 returns c =
-    let l = c.before in
-    let s = l.before.before.before in
+    let l = c in
+    let s = l in
     done _ _ _ _ _ _ _ _ _ s.requires.n_le_column_bound s.requires.x_bound s.requires.own_bound l.lacking.ensures
     l.given-kept.ensures l.loop-k.invariant (omega arith)

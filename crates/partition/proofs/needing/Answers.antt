@@ -35,7 +35,7 @@ overflow_sub-x c = omega (arith, c.power.ensures, bit_power_le _ _ (bit_one _ _ 
 
 pub returns : goal.returns
 returns c =
-    let s = c.before.before.before.before in
+    let s = c in
     needed s.args.keys.now _ _ _ _ _ _ _ _ (bit_one _ _ c.if-x-k-eq0.false)
     c.power.ensures
     c.given.ensures c.lacking.ensures

@@ -32,7 +32,7 @@ laid c =
 
 pub close_rows-requires : goal.close_rows-requires
 close_rows-requires c =
-    let s = c.before.before.before.before.before.before.before.before.before in (
+    let s = c in (
       omega (
         arith,
         ends c.before.before.before,
@@ -45,6 +45,6 @@ close_rows-requires c =
 
 pub returns : goal.returns
 returns c =
-    let s = c.before.before.before.before.before.before.before.before.before.before.before.before in
+    let s = c in
     c.close_rows.ensures (view s.args.cat.now s.args.target) s.args.n s.requires.n_value.1
     (laid c.before.before.before.before.before.before)

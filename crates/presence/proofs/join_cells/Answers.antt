@@ -24,7 +24,7 @@ loop-j-init c =
 -- what is joined leaves room for one cell more
 small : (c : In-loop-j) → 2 * c.loop-j.joined + 1 < 2 ^ 32
 small c =
-    let s = c.before.before.before in
+    let s = c in
     let l = c.loop-j in
     joining_small (present_cell s.args.cat.now s.args.from) s.args.c s.args.set l.j l.joined
     (omega arith) l.invariant s.requires.1 s.requires.2

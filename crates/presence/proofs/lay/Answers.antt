@@ -25,7 +25,7 @@ ends c = c.index-end.ensures ∙ c.rows.ensures
 
 short : (c : At-loop-q) → c.index-end.result ≤ row_bound
 short c =
-    let s = c.before.before.before.before in
+    let s = c in
     omega (arith, ends c, accepted_rows s.args.cat.now s.requires.accepted s.args.target s.requires.target_bound)
 
 pub present_set-requires : goal.present_set-requires

@@ -14,7 +14,7 @@ loop-q-init c = (marked_sets_none c.args.sets.now _, refl, omega arith)
 
 pub mark-requires : goal.mark-requires
 mark-requires c =
-    let s = c.before.before.before.before.before.before in
+    let s = c in
     let l = c.loop-q in
     place_inside s.args.m (word s.args.sets.now l.q) l.plane-1 (room_kept l.invariant.1 s.requires.1)
     (s.requires.2 l.q (omega arith))
@@ -24,7 +24,7 @@ loop-q-smaller c = omega arith
 
 pub loop-q-preserved : goal.loop-q-preserved
 loop-q-preserved c =
-    let s = c.before.before.before.before.before.before.before.before.before in
+    let s = c in
     let l = c.loop-q in (
       marked_sets_more s.args.sets.now _ _ _ l.q l.invariant.0 c.mark.ensures,
       omega arith,

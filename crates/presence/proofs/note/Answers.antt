@@ -45,7 +45,7 @@ loop-row-smaller c = omega arith
 
 pub loop-row-preserved : goal.loop-row-preserved
 loop-row-preserved c =
-    let s = c.before.before.before.before.before.before.before in
+    let s = c in
     let l = c.loop-row in (
       noted_more s.args.b s.args.sets.now s.args.words.now l.words l.row _ _ refl
           c.power-bit.ensures (inside c.before.before) l.invariant.0,

@@ -24,7 +24,7 @@ After-index-c = lts.After-index tie.the-claims reads.Pre reads.Post goal.the-inv
 
 pub loop-above-init : goal.loop-above-init
 loop-above-init c =
-    let s = c.before.before.before in
+    let s = c in
     climbing_begun s.args.cat.now s.args.target s.args.n s.args.p s.requires.target_bound s.requires.n_value
     s.requires.p_bound
 
@@ -135,7 +135,7 @@ short_at-requires-in-loop-above-2 c = omega (arith, head c.before.before.before.
 
 pub loop-above-smaller : goal.loop-above-smaller
 loop-above-smaller c =
-    let e = c.before.before.before.before.before in
+    let e = c in
     let i = e.before.before in
     let l = i.before.before.before in
     parent_lower (bytes l) (ok l) (of l) (exists l) l.loop-above.invariant (table i.before.before) (own i)
@@ -145,7 +145,7 @@ loop-above-smaller c =
 
 pub loop-above-preserved : goal.loop-above-preserved
 loop-above-preserved c =
-    let e = c.before.before.before.before.before in
+    let e = c in
     let i = e.before.before in
     let l = i.before.before.before in
     climbing_next (bytes l) (ok l) (of l) (exists l) l.loop-above.invariant (table i.before.before) (own i)

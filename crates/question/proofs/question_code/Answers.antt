@@ -11,14 +11,14 @@ returns-then-check-ne0 c = is_this _ c.check_code-check.ensures c.if-check-ne0.t
 pub returns-then-sides-ne0 : goal.returns-then-sides-ne0
 unfolding question_code
 returns-then-sides-ne0 c =
-    let first = c.before.before.before in
+    let first = c in
     is_next _ (sym first.check_code-check.ensures ∙ first.if-check-ne0.false)
     (is_this _ c.sides_code-sides.ensures c.if-sides-ne0.true)
 
 pub returns : goal.returns
 unfolding question_code
 returns c =
-    let second = c.before.before in
-    let first = second.before.before in
+    let second = c in
+    let first = second in
     is_next _ (sym first.check_code-check.ensures ∙ first.if-check-ne0.false)
     (is_next _ (sym second.sides_code-sides.ensures ∙ second.if-sides-ne0.false) c.words_code.ensures)

@@ -11,14 +11,14 @@ returns-then-unknown_table-ne0 c = is_this _ c.target_code-unknown_table.ensures
 pub returns-then-unknown_column-ne0 : goal.returns-then-unknown_column-ne0
 unfolding sides_code
 returns-then-unknown_column-ne0 c =
-    let first = c.before.before.before in
+    let first = c in
     is_next _ (sym first.target_code-unknown_table.ensures ∙ first.if-unknown_table-ne0.false)
     (is_this _ c.left_side_code-unknown_column.ensures c.if-unknown_column-ne0.true)
 
 pub returns : goal.returns
 unfolding sides_code
 returns c =
-    let second = c.before.before in
-    let first = second.before.before in
+    let second = c in
+    let first = second in
     is_next _ (sym first.target_code-unknown_table.ensures ∙ first.if-unknown_table-ne0.false)
     (is_next _ (sym second.left_side_code-unknown_column.ensures ∙ second.if-unknown_column-ne0.false) c.right_side_code.ensures)

@@ -20,8 +20,8 @@ returns-then-not-agree_on c = says_no (λ h. said_no c.agree_on.ensures (ap not 
 
 pub agree_right-requires : goal.agree_right-requires
 agree_right-requires c =
-    let s = c.before.before.before.before.before.before.before.before.before.before in
-    let fit = c.before.before.before.before in (
+    let s = c in
+    let fit = c in (
       omega (arith, c.if-end-p.false, s.requires.1),
       omega (arith, c.if-end-q.false, s.requires.1),
       column_small s.requires.0 (said_yes fit.sides_fit.ensures (ap not fit.if-not-sides_fit.false)),
@@ -30,7 +30,7 @@ agree_right-requires c =
 pub returns : goal.returns
 returns c =
     let a = c.args in
-    let fit = c.before.before.before.before.before in
+    let fit = c in
     true_so_far a.keys.now a.n a.low a.end a.e
     (said_yes fit.sides_fit.ensures (ap not fit.if-not-sides_fit.false))
     (omega (arith, c.if-end-p.false)) (omega (arith, c.if-end-q.false))

@@ -5,7 +5,7 @@ use Rattle.records.proofs.target_true.Goals as goal
 
 pub returns : goal.returns
 returns c =
-    let s = c.before.before.before.before.before.before.before.before.before.before in
+    let s = c in
     let by = all_true_by s.args.cat.now s.requires.accepted _ s.args.target _ _ _ _ s.requires.target_bound
     c.visible-n.ensures c.inherited-low.ensures
     c.rows-end.ensures c.lay_all.ensures in

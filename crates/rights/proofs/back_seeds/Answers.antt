@@ -49,7 +49,7 @@ put_behind-requires c =
 
 pub returns : goal.returns
 returns c =
-    let s = c.before.before.before.before.before.before.before.before.before.before.before.before in
+    let s = c in
     let p = s.requires.n_value in
     let v = view s.args.cat.now s.args.target in
     let b = c.backed_plane in

@@ -49,7 +49,7 @@ pub returns : goal.returns
 returns c =
     let s =
     c.before.before.before.before.before.before.before.before.before.before.before.before.before.before.before in
-    let n = c.before.before.before.before.before.before.before in
+    let n = c in
     let v = view s.args.cat.now s.args.target in
     holds_table v _ _ _ _ _ _ (view_equivalence s.args.cat.now s.args.target) (few s) s.pre.1.1.2
     s.pre.1.1.3

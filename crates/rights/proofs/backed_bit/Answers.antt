@@ -15,19 +15,19 @@ use Rattle.rights.proofs.backed_bit.Goals as goal
 
 pub bounds-work-left : goal.bounds-work-left
 bounds-work-left c =
-    let s = c.before.before.before.before.before in
+    let s = c in
     let h = subst (λ (held : Held). Readable held s.args.n s.args.work.now) c.enum_told-1.given.1
     s.requires.2 in
     omega (arith, s.requires.1)
 
 pub overflow_add-power : goal.overflow_add-power
 overflow_add-power c =
-    let s = c.before.before.before.before.before in
+    let s = c in
     record { fits = omega (arith, c.power.ensures, s.requires.1, pow_mono {i = s.args.n} {j = 16} s.requires.0) }
 
 pub bit_at-requires : goal.bit_at-requires
 bit_at-requires c =
-    let s = c.before.before.before.before.before in
+    let s = c in
     let h = subst (λ (held : Held). Readable held s.args.n s.args.work.now) c.enum_told-in-Seeds-1.given.1
     s.requires.2 in
     let l = h.1.one in
@@ -35,7 +35,7 @@ bit_at-requires c =
 
 pub returns-in-Table : goal.returns-in-Table
 returns-in-Table c =
-    let s = c.before.before.before.before.before in
+    let s = c in
     let words = s.args.work.now in
     subst (λ (held : Held). BackedBy s.args.n s.args.left held words
     (bit (word words s.args.left) (s.args.n + 1)))
@@ -44,7 +44,7 @@ returns-in-Table c =
 
 pub returns-in-Seeds : goal.returns-in-Seeds
 returns-in-Seeds c =
-    let s = c.before.before.before.before.before.before in
+    let s = c in
     let words = s.args.work.now in
     subst (λ (held : Held). BackedBy s.args.n s.args.left held words c.bit_at.result)
     (sym c.enum_told-in-Seeds-1.given.1)

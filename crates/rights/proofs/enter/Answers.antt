@@ -9,7 +9,7 @@ use Rattle.rights.proofs.enter.Goals as goal
 
 pub minimal_alone-minimal-requires : goal.minimal_alone-minimal-requires
 minimal_alone-minimal-requires c =
-    let s = c.before.before.before.before.before.before.before.before.before.before in
+    let s = c in
     let cat = s.args.cat.now in
     let e = c.visible-n.ensures in record {
       n_le_column_bound = omega (arith, e, accepted_visible cat s.requires.accepted s.args.target s.requires.target_bound);
@@ -24,7 +24,7 @@ minimal_alone-minimal-requires c =
 
 pub filter_alone-mask-requires : goal.filter_alone-mask-requires
 filter_alone-mask-requires c =
-    let s = c.before.before.before.before.before.before.before.before.before.before.before in
+    let s = c in
     let e = c.visible-n.ensures in
     record {
       accepted = s.requires.accepted;
@@ -34,8 +34,8 @@ filter_alone-mask-requires c =
 
 pub returns-then-sets-eq1 : goal.returns-then-sets-eq1
 returns-then-sets-eq1 c =
-    let t = c.before.before.before.before.before in
-    let s = t.before.before.before.before.before.before.before in record {
+    let t = c in
+    let s = t in record {
       mask_value = λ one.
           alone_rights (ordinary s.args.cat.now) s.args.target
           (filtered s.args.cat.now s.args.target s.requires.accepted s.requires.target_bound s.requires.left_bound.0)
@@ -48,8 +48,8 @@ returns-then-sets-eq1 c =
 
 pub fill-held-requires : goal.fill-held-requires
 fill-held-requires c =
-    let t = c.before.before.before.before in
-    let s = t.before.before.before.before.before.before.before in
+    let t = c in
+    let s = t in
     let e = t.visible-n.ensures in record {
       accepted = s.requires.accepted;
       target_bound = s.requires.target_bound;
@@ -62,8 +62,8 @@ fill-held-requires c =
 
 pub returns : goal.returns
 returns c =
-    let t = c.before.before.before.before.before.before.before in
-    let s = t.before.before.before.before.before.before.before in record {
+    let t = c in
+    let s = t in record {
       mask_value = λ one. absurd (c.if-sets-eq1.false one);
       ready = λ more.
           record {

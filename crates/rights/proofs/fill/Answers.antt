@@ -19,7 +19,7 @@ sow-requires c =
 
 pub back_seeds-requires : goal.back_seeds-requires
 back_seeds-requires c =
-    let s = c.before.before.before.before.before.before.before.before.before.before in
+    let s = c in
     let p = s.requires.n_value in
     let w = c.power.ensures in record {
       accepted = s.requires.accepted;
@@ -33,7 +33,7 @@ back_seeds-requires c =
 
 pub returns-then-work-power : goal.returns-then-work-power
 returns-then-work-power c =
-    let s = c.before.before.before.before.before.before.before.before.before.before.before.before.before in
+    let s = c in
     let p = s.requires.n_value in
     let cat = s.args.cat.now in
     let v = view cat s.args.target in
@@ -53,7 +53,7 @@ write-requires c =
 
 pub back_table-requires : goal.back_table-requires
 back_table-requires c =
-    let s = c.before.before.before.before.before.before.before.before.before.before in
+    let s = c in
     let p = s.requires.n_value in
     let g = c.write.ensures in record {
       accepted = s.requires.accepted;

@@ -13,7 +13,7 @@ returns-then-minimal-eq0 c = kept_none _ _ _ c.if-minimal-eq0.true
 
 pub is_backed-requires : goal.is_backed-requires
 is_backed-requires c =
-    let s = c.before.before.before.before.before.before.before in
+    let s = c in
     omega (
       arith,
       c.rows-end.ensures,
@@ -25,7 +25,7 @@ found : (c : tie.After-is-backed)
     → let s = c.before.before.before.before.before.before.before in
     c.is_backed.result ≡ backed (view s.args.cat.now s.args.target) s.args.left
 found c =
-    let s = c.before.before.before.before.before.before.before in
+    let s = c in
     let v = view s.args.cat.now s.args.target in
     c.is_backed.ensures v s.args.n
     (sets_rows s.args.cat.now s.args.target c.rows-end.ensures
@@ -34,7 +34,7 @@ found c =
 
 pub undropped-requires : goal.undropped-requires
 undropped-requires c =
-    let s = c.before.before.before.before.before.before.before.before.before in
+    let s = c in
     omega (
       arith,
       s.requires.n_value.0,
@@ -43,7 +43,7 @@ undropped-requires c =
 
 pub returns-then-is_backed : goal.returns-then-is_backed
 returns-then-is_backed c =
-    let s = c.before.before.before.before.before.before.before.before.before.before in
+    let s = c in
     kept_backed _ _ _ _ _ (sym s.requires.n_value.0) (sym (found c.before.before.before) ∙ c.if-is_backed.true)
     c.undropped.ensures
 

@@ -8,21 +8,21 @@ use Rattle.rights.proofs.minimal.Goals as goal
 
 pub minimal_rights-requires : goal.minimal_rights-requires
 minimal_rights-requires c =
-    let s = c.before.before.before.before in
+    let s = c in
     let h = subst (λ (held : Held). Readable held s.args.n s.args.work.now) c.enum_told-1.given.1
     s.requires.3 in
     omega (arith, s.requires.1)
 
 pub rights_from-requires : goal.rights_from-requires
 rights_from-requires c =
-    let s = c.before.before.before.before in
+    let s = c in
     let h = subst (λ (held : Held). Readable held s.args.n s.args.work.now) c.enum_told-in-Seeds-1.given.1
     s.requires.3 in
     (h.0, s.requires.0, s.requires.1, h.1)
 
 pub returns-in-Table : goal.returns-in-Table
 returns-in-Table c =
-    let s = c.before.before.before.before.before in
+    let s = c in
     let words = s.args.work.now in
     subst (λ (held : Held). MinimalBy s.args.n s.args.left held s.args.own words words
     c.minimal_rights.result)
@@ -32,7 +32,7 @@ returns-in-Table c =
 
 pub returns-in-Seeds : goal.returns-in-Seeds
 returns-in-Seeds c =
-    let s = c.before.before.before.before.before.before.before.before in
+    let s = c in
     let r = c.rights_from in
     subst (λ (held : Held). MinimalBy s.args.n s.args.left held s.args.own s.args.work.now
     r.new.0 r.result)

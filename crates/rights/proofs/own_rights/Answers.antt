@@ -20,17 +20,17 @@ is_own b t e p q i u v w z =
 
 pub overflow_add-end : goal.overflow_add-end
 overflow_add-end c =
-    let s = c.before.before.before in
+    let s = c in
     omega (arith, accepted_visible s.args.cat.now s.requires.accepted s.args.target s.requires.target_bound)
 
 pub power-requires : goal.power-requires
 power-requires c =
-    let s = c.before.before.before in
+    let s = c in
     omega (arith, accepted_visible s.args.cat.now s.requires.accepted s.args.target s.requires.target_bound)
 
 pub power-requires-2 : goal.power-requires-2
 power-requires-2 c =
-    let s = c.before.before.before.before.before in
+    let s = c in
     omega (
       arith,
       accepted_visible s.args.cat.now s.requires.accepted s.args.target s.requires.target_bound,

@@ -5,7 +5,7 @@ use Rattle.rights.proofs.prepare.Goals as goal
 
 pub enter-requires : goal.enter-requires
 enter-requires c =
-    let s = c.before.before.before.before in
+    let s = c in
     record {
       accepted = s.requires.accepted;
       target_bound = s.requires.target_bound;

@@ -10,7 +10,7 @@ use Rattle.rights.proofs.rights.Goals as goal
 
 pub minimal-found-requires : goal.minimal-found-requires
 minimal-found-requires c =
-    let s = c.before.before.before.before in
+    let s = c in
     let cat = s.args.cat.now in
     let e = s.requires.n_value.0 in
     let r = s.requires.ready in (
@@ -22,7 +22,7 @@ minimal-found-requires c =
 
 pub filter-requires : goal.filter-requires
 filter-requires c =
-    let s = c.before.before.before.before.before.before.before.before in
+    let s = c in
     let cat = s.args.cat.now in
     let v = view cat s.args.target in
     let e = s.requires.n_value.0 in
@@ -34,7 +34,7 @@ filter-requires c =
 
 pub returns : goal.returns
 returns c =
-    let s = c.before.before.before.before.before.before.before.before.before in
+    let s = c in
     let cat = s.args.cat.now in
     let e = s.requires.n_value.0 in
     let f = filtered cat s.args.target s.requires.accepted s.requires.target_bound

@@ -41,7 +41,7 @@ returns-then-end-eq0 c =
 pub returns-then-value-eq0 : goal.returns-then-value-eq0
 unfolding attribute_at
 returns-then-value-eq0 c =
-    let d = c.before.before.before.before in
+    let d = c in
     some_read _ (name d.before.before.before) d.if-name-eq0.false
     (some_read _ d.numeral_at-end.ensures d.if-end-eq0.false
     (none_read _ (value c.before.before) c.if-value-eq0.true))
@@ -49,8 +49,8 @@ returns-then-value-eq0 c =
 pub returns : goal.returns
 unfolding attribute_at
 returns c =
-    let f = c.before.before.before in
-    let d = f.before.before.before in
+    let f = c in
+    let d = f in
     let s = d.args.s.now in
     some_read _ (name d.before.before.before) d.if-name-eq0.false
     (some_read _ d.numeral_at-end.ensures d.if-end-eq0.false

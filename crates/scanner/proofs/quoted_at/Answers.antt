@@ -38,7 +38,7 @@ overflow_add-p c = omega (arith, within c.before)
 pub returns-then-end-eq0 : goal.returns-then-end-eq0
 unfolding quoted_at
 returns-then-end-eq0 c =
-    let d = c.before.before.before in
+    let d = c in
     some_picked (quoted d.before) d.if-not-is_quote.false
     (none_read _ c.numeral_at-end.ensures c.if-end-eq0.true)
 
@@ -48,7 +48,7 @@ overflow_add-p-2 c = omega (arith, within c.before.before.before)
 pub returns-then-number_at-ge-MISSING : goal.returns-then-number_at-ge-MISSING
 unfolding quoted_at
 returns-then-number_at-ge-MISSING c =
-    let d = c.before.before.before.before.before in
+    let d = c in
     some_picked (quoted d.before) d.if-not-is_quote.false
     (some_read _ c.numeral_at-end.ensures c.if-end-eq0.false
     (is_if_not_lt _ (capped_least c.number_at.ensures (omega arith) c.if-number_at-ge-MISSING.true) refl))
@@ -56,8 +56,8 @@ returns-then-number_at-ge-MISSING c =
 pub returns : goal.returns
 unfolding quoted_at
 returns c =
-    let d = c.before.before.before.before.before.before in
-    let e = c.before.before.before.before.before in
+    let d = c in
+    let e = c in
     some_picked (quoted d.before) d.if-not-is_quote.false
     (some_read _ e.numeral_at-end.ensures c.if-end-eq0.false
     (is_if_lt _ (omega (arith, capped_is c.number_at.ensures c.if-number_at-ge-MISSING.false))

@@ -17,7 +17,7 @@ put_u32-requires c =
 
 pub loop-k-preserved : goal.loop-k-preserved
 loop-k-preserved c =
-    let turn = c.before.before.before.before.before.before.before in
+    let turn = c in
     coding_more _ _ turn.requires.0 _ _ turn.loop-k.invariant (omega arith)
     c.put_u32.ensures
 

@@ -6,8 +6,8 @@ use Rattle.sheets.proofs.put_row.Goals as goal
 
 pub returns : goal.returns
 returns c =
-    let read = c.before.before.before.before.before.before.before.before.before.before in
-    let start = read.before.before.before.before in
+    let read = c in
+    let start = read in
     row_put _ _ _ _ _ _ _ (cells_in (drop start.args.p start.args.s.now)) read.read_codes.ensures
     start.requires.0 c.put_u16.ensures
     c.put_codes.ensures

@@ -17,8 +17,8 @@ put_tag-to-requires c =
 
 pub loop-p-preserved : goal.loop-p-preserved
 loop-p-preserved c =
-    let put = c.before.before.before.before.before in
-    let turn = put.before.before.before.before.before in
+    let put = c in
+    let turn = put in
     let pre = turn.requires in
     rowing_more _ _ _ _ _ _ turn.loop-p.invariant pre.0 pre.1 (omega arith) put.up_of.ensures
     put.number_at-n.ensures put.put_tag-to.ensures c.seen_after-seen.ensures

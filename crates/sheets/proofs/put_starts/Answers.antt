@@ -14,7 +14,7 @@ put_u32-requires c =
 
 pub size_of-start-requires : goal.size_of-start-requires
 size_of-start-requires c =
-    let start = c.before.before.before.before.before.before.before.before.before.before in
+    let start = c in
     (omega (arith, accepted_tables start.args.shape.now start.requires.0), start.requires.1 _ (omega arith))
 
 pub loop-table-preserved : goal.loop-table-preserved

@@ -6,15 +6,15 @@ use Rattle.sheets.proofs.put_table.Goals as goal
 
 pub put_head-requires : goal.put_head-requires
 put_head-requires c =
-    let start = c.before.before.before.before.before.before.before in
+    let start = c in
     let a = start.args in
     head_room a.shape.now (tags_in a.s.now) a.table c.columns-columns.ensures
     c.parent-above.ensures a.out-1.now a.at start.requires.3
 
 pub put_rows-requires : goal.put_rows-requires
 put_rows-requires c =
-    let head = c.before.before.before.before in
-    let start = head.before.before.before.before.before.before.before in
+    let head = c in
+    let start = head in
     let a = start.args in (
       omega arith,
       omega arith,
@@ -26,8 +26,8 @@ put_rows-requires c =
 
 pub returns : goal.returns
 returns c =
-    let head = c.before.before.before.before.before.before.before in
-    let start = head.before.before.before.before.before.before.before in
+    let head = c in
+    let start = head in
     let a = start.args in
     table_put a.shape.now (tags_in a.s.now) a.table head.columns-columns.ensures
     head.parent-above.ensures a.out-1.now a.at _ _ _ a.count start.requires.2

@@ -10,12 +10,12 @@ loop-table-init c = tabling_begun _ _ _
 
 pub bounds-counts-table : goal.bounds-counts-table
 bounds-counts-table c =
-    let start = c.before.before.before.before.before.before.before.before in
+    let start = c in
     omega (arith, accepted_tables start.args.shape.now start.requires.0)
 
 pub put_table-at-requires : goal.put_table-at-requires
 put_table-at-requires c =
-    let start = c.before.before.before.before.before.before.before.before.before in
+    let start = c in
     let few = accepted_tables start.args.shape.now start.requires.0 in (
       omega arith,
       accepted_columns start.args.shape.now start.requires.0 _ (omega arith),

@@ -6,7 +6,7 @@ use Rattle.sheets.proofs.put_trailer.Goals as goal
 
 pub returns : goal.returns
 returns c =
-    let starts = c.before.before.before.before.before.before.before.before.before.before.before in
+    let starts = c in
     let a = starts.args in
     let n = tables a.shape.now in
     trailer_put a.out-1.now _ _ _ a.at _ n (starts_in a.shape.now a.counts.now n 0 0)

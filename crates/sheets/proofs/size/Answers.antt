@@ -11,7 +11,7 @@ loop-table-init c = sizing_begun _ _
 
 pub size_of-sum-requires : goal.size_of-sum-requires
 size_of-sum-requires c =
-    let start = c.before.before.before.before.before in
+    let start = c in
     (omega (arith, accepted_tables start.args.shape.now start.requires.0), start.requires.1 _ (omega arith))
 
 pub loop-table-preserved : goal.loop-table-preserved

@@ -5,7 +5,7 @@ use Rattle.sheets.proofs.write.Goals as goal
 
 pub put_tables-end-requires : goal.put_tables-end-requires
 put_tables-end-requires c =
-    let start = c.before.before.before.before.before in
+    let start = c in
     let a = start.args in (
       start.requires.0,
       start.requires.1,
@@ -14,8 +14,8 @@ put_tables-end-requires c =
 
 pub put_trailer-requires : goal.put_trailer-requires
 put_trailer-requires c =
-    let put = c.before.before.before.before in
-    let start = put.before.before.before.before.before in
+    let put = c in
+    let start = put in
     let a = start.args in (
       start.requires.0,
       start.requires.2,
@@ -25,8 +25,8 @@ put_trailer-requires c =
 
 pub returns : goal.returns
 returns c =
-    let put = c.before.before.before.before.before.before.before in
-    let start = put.before.before.before.before.before in
+    let put = c in
+    let start = put in
     let a = start.args in
     whole_put a.shape.now a.text.now a.counts.now (accepted_tables a.shape.now start.requires.0)
     start.requires.1 a.out-1.now _ _ _ start.requires.3 put.put_tables-end.ensures

@@ -5,7 +5,7 @@ use Rattle.soundness.proofs.sow.Goals as goal
 
 pub returns : goal.returns
 returns c =
-    let s = c.before.before.before.before.before.before.before.before.before.before.before in
+    let s = c in
     let v = view s.args.cat.now s.args.target in (
       c.sow_among.ensures.0,
       c.sow_among.ensures.1 v

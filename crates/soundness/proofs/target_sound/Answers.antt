@@ -34,7 +34,7 @@ entries_fit-requires c =
 
 pub returns-then-not-entries_fit : goal.returns-then-not-entries_fit
 returns-then-not-entries_fit c =
-    let s = c.before.before.before.before.before.before.before in
+    let s = c in
     says_no (not_fitting s.args.cat.now s.args.target _ _ _ c.visible-n.ensures
     c.inherited-low.ensures (said_no c.entries_fit.ensures (ap not c.if-not-entries_fit.true)))
 
@@ -51,7 +51,7 @@ sow-requires c =
 
 pub backed_plane-requires : goal.backed_plane-requires
 backed_plane-requires c =
-    let wide = c.before.before.before.before.before in
+    let wide = c in
     let n = wide.visible-n.ensures in
     let m = wide.wide-m.ensures in
     let s = wide.before.before.before.before.before.before.before in
@@ -63,8 +63,8 @@ backed_plane-requires c =
 
 pub close_lefts-requires : goal.close_lefts-requires
 close_lefts-requires c =
-    let wide = c.before.before.before.before.before.before.before.before in
-    let fit = wide.before in
+    let wide = c in
+    let fit = wide in
     let n = fit.visible-n.ensures in
     let m = wide.wide-m.ensures in
     let s = fit.before.before.before.before.before.before in (
@@ -75,10 +75,10 @@ close_lefts-requires c =
 
 pub rights_sound-requires : goal.rights_sound-requires
 rights_sound-requires c =
-    let keys = c.before.before.before.before.before in
-    let sow = keys.before.before.before.before.before.before in
-    let wide = sow.before.before in
-    let fit = wide.before in
+    let keys = c in
+    let sow = keys in
+    let wide = sow in
+    let fit = wide in
     let n = fit.visible-n in
     let s = fit.before.before.before.before.before.before in
     let m = wide.wide-m.ensures in
@@ -102,9 +102,9 @@ rights_sound-requires c =
 
 pub returns : goal.returns
 returns c =
-    let backed = c.before.before.before.before.before.before.before.before.before in
-    let sow = backed.before.before.before in
-    let fit = sow.before.before.before in
+    let backed = c in
+    let sow = backed in
+    let fit = sow in
     let s = fit.before.before.before.before.before.before in
     let cat = s.args.cat.now in
     let n = fit.visible-n.ensures in

@@ -28,27 +28,27 @@ returns-then-work-lt-WORK_BOUND c = begin_few _ _ _ _ _ _ (search rules) (search
 
 pub returns-then-last-place : goal.returns-then-last-place
 returns-then-last-place c =
-    let s = c.before.before.before.before.before.before.before.before in
+    let s = c in
     begin_past _ _ _ _ _ _ (search rules) (search rules) (omega (arith, cells_length s.args.cat.now))
 
 pub returns-then-budget-eq0 : goal.returns-then-budget-eq0
 returns-then-budget-eq0 c =
-    let s = c.before.before.before.before.before.before.before.before.before.before.before.before.before in
+    let s = c in
     begin_spent _ _ _ _ _ _ (search rules) (search rules) (omega (arith, cells_length s.args.cat.now)) _
     (search rules) (search rules)
 
 pub returns-then-place-last : goal.returns-then-place-last
 returns-then-place-last c =
-    let s = c.before.before.before.before.before.before.before.before.before.before.before.before.before.before in
+    let s = c in
     let e = cells_length s.args.cat.now in
     begin_end _ _ _ _ _ _ (search rules) (search rules) (omega arith) _ (search rules) (omega arith)
 
 pub pass_first-requires : goal.pass_first-requires
 pass_first-requires c =
-    let f = c.before.before in
+    let f = c in
     let none = sym f.check_code-code.ensures
     ∙ f.if-code-ne0.false in
-    let s = c.before.before.before.before.before.before.before.before.before.before.before.before in
+    let s = c in
     record {
       accepted = none;
       fresh = (c.first-w.ensures s.args.work.now (search rules)).fresh;
@@ -56,11 +56,11 @@ pass_first-requires c =
 
 pub step-requires : goal.step-requires
 step-requires c =
-    let q = c.before.before.before.before.before.before.before in
-    let f = q.before.before in
+    let q = c in
+    let f = q in
     let none = sym f.check_code-code.ensures
     ∙ f.if-code-ne0.false in
-    let s = f.before.before.before.before.before.before.before.before.before.before in
+    let s = f in
     let h =
     subst (λ (r : Reached). Passes (ordinary s.args.cat.now) f.first-w.result r q.pass_first.new.work)
     c.v-1.given.1
@@ -69,12 +69,12 @@ step-requires c =
 
 pub returns-in-At : goal.returns-in-At
 returns-in-At c =
-    let p = c.before.before.before.before in
-    let q = p.before.before.before.before.before.before in
-    let f = q.before.before in
+    let p = c in
+    let q = p in
+    let f = q in
     let none = sym f.check_code-code.ensures
     ∙ f.if-code-ne0.false in
-    let s = f.before.before.before.before.before.before.before.before.before.before in
+    let s = f in
     let g = f.first-w.ensures s.args.work.now (search rules) in
     let h =
     subst (λ (r : Reached). Passes (ordinary s.args.cat.now) f.first-w.result r q.pass_first.new.work)
@@ -88,12 +88,12 @@ returns-in-At c =
 
 pub returns-in-Stop : goal.returns-in-Stop
 returns-in-Stop c =
-    let p = c.before.before.before.before.before in
-    let q = p.before.before.before.before in
-    let f = q.before.before in
+    let p = c in
+    let q = p in
+    let f = q in
     let none = sym f.check_code-code.ensures
     ∙ f.if-code-ne0.false in
-    let s = f.before.before.before.before.before.before.before.before.before.before in
+    let s = f in
     let g = f.first-w.ensures s.args.work.now (search rules) in
     let h =
     subst (λ (r : Reached). Passes (ordinary s.args.cat.now) f.first-w.result r q.pass_first.new.work)

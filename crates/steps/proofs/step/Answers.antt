@@ -22,7 +22,7 @@ onward-requires c =
 
 pub loop-v-smaller : goal.loop-v-smaller
 loop-v-smaller c =
-    let s = c.before.before.before.before.before.before.before.before.before.before.before.before.before in
+    let s = c in
     let l = c.loop-v in
     let o = c.onward in
     let g = subst (λ (r : Reached). Goes (ordinary s.args.cat.now) l.v r o.new.1.1.0)
@@ -31,7 +31,7 @@ loop-v-smaller c =
 
 pub loop-v-preserved : goal.loop-v-preserved
 loop-v-preserved c =
-    let s = c.before.before.before.before.before.before.before.before.before.before.before.before.before in
+    let s = c in
     let l = c.loop-v in
     let o = c.onward in
     let g = subst (λ (r : Reached). Goes (ordinary s.args.cat.now) l.v r o.new.1.1.0)
@@ -47,9 +47,9 @@ shape_of-work-in-Stop c =
 
 pub returns-in-Stop : goal.returns-in-Stop
 returns-in-Stop c =
-    let t = c.before.before.before.before.before in
+    let t = c in
     let l = t.loop-v in
-    let s = t.before.before.before.before.before.before.before.before.before.before.before in
+    let s = t in
     let o = t.onward in
     let g = subst (λ (r : Reached). Goes (ordinary s.args.cat.now) l.v r o.new.1.1.0)
     t.enum_told-1.given.1 o.ensures in

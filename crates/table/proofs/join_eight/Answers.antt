@@ -5,12 +5,12 @@ use Rattle.table.proofs.join_eight.Goals as goal
 
 pub returns : goal.returns
 returns c =
-    let seven = c.before.before.before in
-    let six = seven.before.before.before.before in
-    let five = six.before.before.before.before in
-    let four = five.before.before.before.before in
-    let three = four.before.before.before.before in
-    let two = three.before.before.before.before in
+    let seven = c in
+    let six = seven in
+    let five = six in
+    let four = five in
+    let three = four in
+    let two = three in
     let one = two.before.before.before.before in
     eight_joined _ _ _ _ _ _ _ _ _ (search rules) one.join_block.ensures two.join_block-2.ensures
     three.join_block-3.ensures four.join_block-4.ensures five.join_block-5.ensures

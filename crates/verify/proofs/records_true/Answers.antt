@@ -15,7 +15,7 @@ all_known-requires c = held_inside _ c.requires.1
 
 pub returns-then-not-all_known : goal.returns-then-not-all_known
 returns-then-not-all_known c =
-    let s = c.before.before.before.before.before.before.before in
+    let s = c in
     says_no (λ h. said_no c.before.all_Known.ensures (ap not c.if-not-all_known.true)
     (for_tables s.args.cat.now s.args.bytes.now s.requires.1 c.tables-end.ensures h))
 
@@ -24,7 +24,7 @@ loop-target-init c = so_far_none
 
 pub target_true-requires : goal.target_true-requires
 target_true-requires c =
-    let s = c.before.before.before.before.before.before.before.before.before in
+    let s = c in
     let end = c.tables-end.ensures in
     record {
       accepted = s.requires.0;
@@ -34,7 +34,7 @@ target_true-requires c =
 
 pub returns-then-not-target_true : goal.returns-then-not-target_true
 returns-then-not-target_true c =
-    let s = c.before.before.before.before.before.before.before.before.before.before.before in
+    let s = c in
     let end = c.tables-end.ensures in
     says_no (λ h. said_no c.target_true.ensures (ap not c.if-not-target_true.true)
     (of_target s.args.cat.now s.args.bytes.now s.requires.1 end h _))
@@ -46,7 +46,7 @@ loop-target-preserved c =
 
 pub returns : goal.returns
 returns c =
-    let s = c.before.before.before.before.before.before.before.before.before in
+    let s = c in
     let end = c.tables-end.ensures in
     says_yes (all_targets_true s.args.cat.now s.args.bytes.now s.requires.1 end
     c.if-bytes-ne0.false

@@ -12,7 +12,7 @@ loop-target-init c = so_far_none
 
 pub target_covered-requires : goal.target_covered-requires
 target_covered-requires c =
-    let s = c.before.before.before.before.before.before.before in record {
+    let s = c in record {
       accepted = s.requires.0;
       target_bound = omega (arith, c.loop-target-test.true, c.tables-end.ensures);
       count_in_bounds = (s.requires.1, s.requires.2, s.requires.3, s.requires.4);
@@ -29,6 +29,6 @@ loop-target-preserved c =
 
 pub returns : goal.returns
 returns c =
-    let s = c.before.before.before.before.before.before.before in
+    let s = c in
     says_yes (all_targets_covered s.args.cat.now _ c.tables-end.ensures _
     (so_far_all (omega arith) c.loop-target.invariant))

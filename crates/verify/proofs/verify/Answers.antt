@@ -20,15 +20,15 @@ returns-then-code-ne0 c =
 pub judged-requires : goal.judged-requires
 judged-requires c =
     let e = sym (ap open_reply c.count-1.given.1) ∙ c.before.before.before.«open».ensures in
-    let ok = c.before.before.before.before.before in
+    let ok = c in
     (sym ok.check_code-code.ensures ∙ ok.if-code-ne0.false, omega (arith, (opened _ e).inside))
 
 pub returns-in-Opened : goal.returns-in-Opened
 returns-in-Opened c =
     let a = c.args in
-    let told = c.before.before.before in
+    let told = c in
     let e = sym (ap open_reply told.count-1.given.1) ∙ told.before.before.«open».ensures in
-    let ok = told.before.before.before in
+    let ok = told in
     c.judged.ensures
     ∙ list_opened a.cat.now a.list.now a.evidence.now
     (sym ok.check_code-code.ensures ∙ ok.if-code-ne0.false) (opened _ e)
@@ -36,7 +36,7 @@ returns-in-Opened c =
 pub returns-in-Refused : goal.returns-in-Refused
 returns-in-Refused c =
     let a = c.args in
-    let ok = c.before.before.before.before.before in
+    let ok = c in
     list_refused a.cat.now a.list.now a.evidence.now
     (sym ok.check_code-code.ensures ∙ ok.if-code-ne0.false)
     (sym (ap open_reply c.r-1.given.1) ∙ c.before.before.before.«open».ensures)

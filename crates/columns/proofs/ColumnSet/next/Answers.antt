@@ -85,7 +85,7 @@ returns-then-n-gt-COLUMN_BOUND c = sym (next_over _ _ c.if-n-gt-COLUMN_BOUND.tru
 
 pub returns-then-end-x : goal.returns-then-end-x
 returns-then-end-x c =
-    let d = c.before.before in
+    let d = c in
     sym (next_absent _ _ d.if-n-gt-COLUMN_BOUND.false (omega arith))
     ∙ ap (next_of d.args.n) d.members-x.ensures
 

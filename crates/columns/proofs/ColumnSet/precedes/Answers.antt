@@ -27,12 +27,12 @@ returns-then-s-t c =
 
 pub returns-then-s-t-2 : goal.returns-then-s-t-2
 returns-then-s-t-2 c =
-    let d = c.before.before in
+    let d = c in
     larger _ _ c.if-s-t.false c.if-s-t-2.true
     ∙ ap₂ precedes_of d.members-x.ensures d.members-y.ensures
 
 pub returns : goal.returns
 returns c =
-    let d = c.before.before in
+    let d = c in
     as_large _ _ c.if-s-t.false c.if-s-t-2.false
     ∙ ap₂ precedes_of d.members-x.ensures d.members-y.ensures

@@ -4,7 +4,7 @@ use Rattle.lines.proofs.part.numbered_line.Goals as goal
 
 pub returns-then-few-lt256 : goal.returns-then-few-lt256
 returns-then-few-lt256 c =
-    let s = c.before.before.before.before.before.before.before in
+    let s = c in
     let a = s.args in
     let low = c.compare_eight.ensures in record {
       line_of = line_low a.bytes.now a.few a.x _ a.high.now c.if-few-lt256.true low
@@ -14,7 +14,7 @@ returns-then-few-lt256 c =
 
 pub returns : goal.returns
 returns c =
-    let s = c.before.before.before.before.before.before.before.before.before in
+    let s = c in
     let a = s.args in
     let low = c.compare_eight.ensures in
     let high = c.compare_eight-2.ensures in

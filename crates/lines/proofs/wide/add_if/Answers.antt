@@ -13,7 +13,7 @@ returns-then-few-k-eq1 c =
 
 pub returns : goal.returns
 returns c =
-    let s = c.before.before.before in
+    let s = c in
     let a = s.args in record {
       by_index = λ bytes o.
           line_joined a.keys.now bytes a.few a.k a.x a.line.now s.requires.0

@@ -25,7 +25,7 @@ occurring-requires c = record {
 
 pub write_seeds-requires : goal.write_seeds-requires
 write_seeds-requires c =
-    let s = c.before.before.before.before.before in
+    let s = c in
     (s.requires.0, s.requires.1, omega (arith, s.requires.3, two_planes s.args.n s.requires.0))
 
 pub bounds-words-power : goal.bounds-words-power

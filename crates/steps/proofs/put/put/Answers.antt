@@ -8,24 +8,24 @@ use Rattle.steps.proofs.put.put.Goals as goal
 pub power-requires : goal.power-requires
 unfolding lowest
 power-requires c =
-    let s = c.before in
+    let s = c in
     omega (arith, put_lowest s.args.w s.requires, s.requires.members)
 
 pub overflow_sub-v : goal.overflow_sub-v
 unfolding lowest
 overflow_sub-v c =
-    let s = c.before.before in
+    let s = c in
     omega (arith, put_power s.args.w s.requires, c.power.ensures)
 
 pub overflow_cast-result-2 : goal.overflow_cast-result-2
 unfolding lowest
 overflow_cast-result-2 c =
-    let s = c.before.before.before in
+    let s = c in
     let h = put_right s.args.w s.requires _ c.right_at-right.ensures in
     search rules
 
 pub returns : goal.returns
 unfolding lowest
 returns c =
-    let s = c.before.before.before.before in
+    let s = c in
     put_is s.args.w s.requires c.right_at-right.ensures c.power.ensures

@@ -10,12 +10,12 @@ use Rattle.walk.proofs.locate.find.Goals as goal
 
 pub loop-index-init : goal.loop-index-init
 loop-index-init c =
-    let s = c.before.before in
+    let s = c in
     passing_none _ _ (omega (arith, s.requires.place_bound, cells_length s.args.cat.now))
 
 pub power-here-requires : goal.power-here-requires
 power-here-requires c =
-    let s = c.before.before.before.before in
+    let s = c in
     let l = c.loop-index in
     omega (arith, c.visible.ensures, accepted_visible s.args.cat.now s.requires.accepted l.target l.invariant.target)
 
@@ -26,7 +26,7 @@ returns-then-index-here c =
 
 pub overflow_add-target : goal.overflow_add-target
 overflow_add-target c =
-    let s = c.before.before.before.before.before.before in
+    let s = c in
     omega (arith, accepted_tables s.args.cat.now s.requires.accepted, c.loop-index.invariant.target)
 
 pub loop-index-smaller : goal.loop-index-smaller

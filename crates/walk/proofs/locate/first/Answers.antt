@@ -11,7 +11,7 @@ use Rattle.walk.proofs.locate.first.Goals as goal
 pub set_at-left-requires : goal.set_at-left-requires
 set_at-left-requires c =
     let f = c.find-s in
-    let s = c.before.before.before.before in
+    let s = c in
     let e = c.visible-n.ensures in
     let n = accepted_visible s.args.cat.now s.requires.accepted f.result.target f.ensures.target in
     record {
@@ -21,8 +21,8 @@ set_at-left-requires c =
 
 pub returns : goal.returns
 returns c =
-    let v = c.before.before in
-    let s = v.before.before.before in
+    let v = c in
+    let s = v in
     let cat = s.args.cat.now in
     λ words enough.
     first_walk (ordinary cat) words _ _ _ _ _ _ _ _ _ (ordinary_bounded cat s.requires.accepted) enough s.requires.budget_nonzero

@@ -21,12 +21,12 @@ set_is n i s b h e t = ap bits_of (sym t ∙ e ∙ at_inside n i b h)
 pub returns-in-Set : goal.returns-in-Set
 unfolding bits_of
 returns-in-Set c =
-    let s = c.before.before.before.before in
+    let s = c in
     set_is _ _ (Set c.s-1.given.0.0) s.requires.n_le_column_bound s.requires.index_bound c.at.ensures
     c.s-1.given.1
 
 pub returns-in-Nothing : goal.returns-in-Nothing
 unfolding bits_of
 returns-in-Nothing c =
-    let s = c.before.before.before in
+    let s = c in
     set_is _ _ Nothing s.requires.n_le_column_bound s.requires.index_bound c.at.ensures c.enum_told-1.given.1

@@ -14,7 +14,7 @@ use Rattle.walk.proofs.onward.following.Goals as goal
 
 pub overflow_add-target : goal.overflow_add-target
 overflow_add-target c =
-    let s = c.before.before.before.before.before.before.before in
+    let s = c in
     omega (
       arith,
       good_target (ordinary s.args.cat.now) s.args.w s.args.work.now s.requires.good s.requires.pending_value,
@@ -23,7 +23,7 @@ overflow_add-target c =
 
 pub returns-then-n-target : goal.returns-then-n-target
 returns-then-n-target c =
-    let s = c.before.before.before.before.before.before.before.before.before in
+    let s = c in
     let e : next_of s.args.w.members (members_of s.args.w.left) ≡ Nothing =
     sym c.next.ensures ∙ c.enum_told-1.given.1 in
     follow_none (ordinary s.args.cat.now) s.args.w s.args.work.now s.requires.good s.requires.pending_value
@@ -31,7 +31,7 @@ returns-then-n-target c =
 
 pub returns-in-Set : goal.returns-in-Set
 returns-in-Set c =
-    let s = c.before.before.before.before.before.before.before in
+    let s = c in
     let e : next_of s.args.w.members (members_of s.args.w.left) ≡ Set c.s-1.given.0.0 =
     sym c.next.ensures ∙ c.s-1.given.1 in
     follow_within (ordinary s.args.cat.now) s.args.w s.args.work.now s.requires.good s.requires.pending_value
@@ -39,8 +39,8 @@ returns-in-Set c =
 
 pub returns-else-n-target : goal.returns-else-n-target
 returns-else-n-target c =
-    let v = c.before.before.before in
-    let s = v.before.before.before.before.before.before.before.before.before.before.before.before in
+    let v = c in
+    let s = v in
     let l = ordinary s.args.cat.now in
     let p = v.prepare-entered in
     let e : next_of s.args.w.members (members_of s.args.w.left) ≡ Nothing =

@@ -9,12 +9,12 @@ use Rattle.walk.proofs.onward.onward.Goals as goal
 
 pub returns-then-w-eq0 : goal.returns-then-w-eq0
 returns-then-w-eq0 c =
-    let s = c.before.before.before.before.before in
+    let s = c in
     stopped_spent (ordinary s.args.cat.now) s.args.w s.requires.pending_value c.if-w-eq0.true
 
 pub following-requires : goal.following-requires
 following-requires c =
-    let s = c.before.before.before.before.before.before in
+    let s = c in
     record {
       accepted = s.requires.accepted;
       good = s.requires.good;
@@ -24,7 +24,7 @@ following-requires c =
 
 pub pass-requires : goal.pass-requires
 pass-requires c =
-    let s = c.before.before.before.before.before.before.before.before.before.before.before.before.before in
+    let s = c in
     let f = c.following in
     let a =
     subst (λ (r : Reached). Follows (ordinary s.args.cat.now) s.args.w r f.new.1.1.0)
@@ -38,8 +38,8 @@ pass-requires c =
 
 pub returns-in-At : goal.returns-in-At
 returns-in-At c =
-    let p = c.before.before.before.before in
-    let s = p.before.before.before.before.before.before.before.before.before.before.before.before in
+    let p = c in
+    let s = p in
     let f = p.following in
     let q = c.pass in
     let a =
@@ -52,7 +52,7 @@ returns-in-At c =
 
 pub returns-in-Stop : goal.returns-in-Stop
 returns-in-Stop c =
-    let s = c.before.before.before.before.before.before.before.before.before.before.before in
+    let s = c in
     let f = c.following in
     stopped_end (ordinary s.args.cat.now) s.args.w s.requires.pending_value
     (subst (λ (r : Reached). Follows (ordinary s.args.cat.now) s.args.w r f.new.1.1.0)

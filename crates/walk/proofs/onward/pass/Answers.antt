@@ -6,7 +6,7 @@ use Rattle.walk.proofs.onward.pass.Goals as goal
 
 pub rights-mask-requires : goal.rights-mask-requires
 rights-mask-requires c =
-    let s = c.before.before.before.before in
+    let s = c in
     let l = ordinary s.args.cat.now in
     let f = s.requires.fresh in record {
       accepted = s.requires.accepted;
@@ -17,13 +17,13 @@ rights-mask-requires c =
 
 pub passed-requires : goal.passed-requires
 passed-requires c =
-    let s = c.before.before.before.before.before.before.before in
+    let s = c in
     fresh_passable (ordinary s.args.cat.now) s.args.w s.args.work.now s.requires.fresh _
     c.rights-mask.ensures.value
 
 pub returns : goal.returns
 returns c =
-    let s = c.before.before.before.before.before.before.before.before in
+    let s = c in
     let r = c.rights-mask in
     passes_by (ordinary s.args.cat.now) s.args.w s.args.work.now s.requires.fresh _ r.ensures.0 _
     (λ some. r.ensures.1) (search rules) c.passed.result c.passed.ensures

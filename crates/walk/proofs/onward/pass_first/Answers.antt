@@ -9,7 +9,7 @@ use Rattle.walk.proofs.onward.pass_first.Goals as goal
 
 pub alone-mask-requires : goal.alone-mask-requires
 alone-mask-requires c =
-    let s = c.before.before.before.before.before.before in
+    let s = c in
     let l = ordinary s.args.cat.now in record {
       accepted = s.requires.accepted;
       target_bound = fresh_target l s.args.w s.args.work.now s.requires.fresh;
@@ -18,13 +18,13 @@ alone-mask-requires c =
 
 pub passed-requires : goal.passed-requires
 passed-requires c =
-    let s = c.before.before.before.before.before.before.before.before.before in
+    let s = c in
     fresh_passable (ordinary s.args.cat.now) s.args.w s.args.work.now s.requires.fresh _
     c.alone-mask.ensures
 
 pub returns-then-w-eq1 : goal.returns-then-w-eq1
 returns-then-w-eq1 c =
-    let s = c.before.before.before.before.before.before.before.before.before.before in
+    let s = c in
     passes_by (ordinary s.args.cat.now) s.args.w s.args.work.now s.requires.fresh _
     c.alone-mask.ensures _
     (λ some. absurd (omega (arith, c.if-w-eq1.true))) (search rules)
@@ -32,7 +32,7 @@ returns-then-w-eq1 c =
 
 pub prepare-entered-requires : goal.prepare-entered-requires
 prepare-entered-requires c =
-    let s = c.before.before.before.before.before.before in record {
+    let s = c in record {
       accepted = s.requires.accepted;
       target_bound = fresh_target (ordinary s.args.cat.now) s.args.w s.args.work.now s.requires.fresh;
       work_bound_in_bounds = s.requires.fresh.sound.enough;
@@ -40,7 +40,7 @@ prepare-entered-requires c =
 
 pub rights-mask-requires : goal.rights-mask-requires
 rights-mask-requires c =
-    let s = c.before.before.before.before.before.before.before.before.before.before.before in
+    let s = c in
     let l = ordinary s.args.cat.now in
     let v = c.entering-v.result in
     let p = c.prepare-entered in
@@ -54,7 +54,7 @@ rights-mask-requires c =
 
 pub passed-requires-2 : goal.passed-requires-2
 passed-requires-2 c =
-    let s = c.before.before.before.before.before.before.before.before.before.before.before.before.before.before in
+    let s = c in
     let l = ordinary s.args.cat.now in
     let e = c.entering-v in
     fresh_passable l e.result s.args.work.now
