@@ -8,7 +8,7 @@ use Rattle.pages.proofs.Whole.{counted_more, counted_few, counted_none}
 use Rattle.pages.proofs.count_from.Goals as goal
 
 -- what the call in the loop gave
-given : (c : lts.After-known-told (list-filled-reads.Asked, list-filled-reads.Learnt) reads.Pre reads.Post invariant-loop
+given : (c : lts.After-known-told (list-filled-reads.Asked, list-filled-reads.Learnt) reads.Pre reads.Post tie.handed_clauses invariant-loop
     decreases-loop)
     → Ran
     (cells
