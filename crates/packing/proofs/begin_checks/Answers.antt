@@ -12,6 +12,6 @@ returns-then-k-eq0 c =
 
 pub returns : goal.returns
 returns c = record {
-  on = λ es l. begins_checking es _ _ _ l (λ y. omega arith) c.Going-on.ensures.0 c.Going-on.ensures.1
-      c.Going-on.ensures.2;
+  on = λ es l. begins_checking es _ _ _ l (λ y. omega arith) c.going_on.ensures.0 c.going_on.ensures.1
+      c.going_on.ensures.2;
 }
