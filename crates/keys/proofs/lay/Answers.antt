@@ -20,13 +20,13 @@ use Rattle.keys.proofs.lay.Reads as reads
 use Rattle.keys.proofs.lay.Goals as goal
 
 abbrev At-loop-reached : Type 0
-At-loop-reached = lts.At-loop tie.the-claims reads.Pre reads.Post tie.handed_clauses goal.the-invariant-loop-reached goal.the-decreases-loop-reached
+At-loop-reached = lts.At-loop tie.the-claims reads.Pre reads.Post goal.the-invariant-loop-reached goal.the-decreases-loop-reached tie.handed_clauses
 
 abbrev After-index-c : Type 0
-After-index-c = lts.After-index2 tie.the-claims reads.Pre reads.Post tie.handed_clauses goal.the-invariant-loop-reached goal.the-decreases-loop-reached
+After-index-c = lts.After-index2 tie.the-claims reads.Pre reads.Post goal.the-invariant-loop-reached goal.the-decreases-loop-reached tie.handed_clauses
 
 abbrev Else-set-power-eq0 : Type 0
-Else-set-power-eq0 = lts.Else1 tie.the-claims reads.Pre reads.Post tie.handed_clauses goal.the-invariant-loop-reached goal.the-decreases-loop-reached
+Else-set-power-eq0 = lts.Else1 tie.the-claims reads.Pre reads.Post goal.the-invariant-loop-reached goal.the-decreases-loop-reached tie.handed_clauses
 
 pub own_rows-requires : goal.own_rows-requires
 own_rows-requires c =

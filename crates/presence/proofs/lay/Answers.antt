@@ -12,7 +12,7 @@ use Rattle.presence.proofs.lay.Reads as reads
 use Rattle.presence.proofs.lay.Goals as goal
 
 abbrev At-loop-q : Type 0
-At-loop-q = lts.At-loop tie.the-claims reads.Pre reads.Post tie.handed_clauses goal.the-invariant-loop-q goal.the-decreases-loop-q
+At-loop-q = lts.At-loop tie.the-claims reads.Pre reads.Post goal.the-invariant-loop-q goal.the-decreases-loop-q tie.handed_clauses
 
 pub loop-q-init : goal.loop-q-init
 loop-q-init c = (filled_none, omega arith)
