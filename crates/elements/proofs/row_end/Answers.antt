@@ -34,4 +34,4 @@ unfolding name_of
 returns c =
     let a = c.args in
     read_at (λ m. end_at a.s.now (take (m - (a.p + 1)) (drop (a.p + 1) a.s.now)) a.q)
-    c.end_at_lem.ensures c.digits_end-end.ensures
+    c.end_at.ensures c.digits_end-end.ensures

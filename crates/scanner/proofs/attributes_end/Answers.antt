@@ -9,10 +9,8 @@ use Rattle.scanner.proofs.Progress.{attributes_go}
 use Rattle.scanner.proofs.attributes_end.Goals as goal
 
 -- there was an attribute
-there : (c : tie.After-attribute-at invariant-loop decreases-loop)
-    → let s = c.args.s.now in
-    is_attribute s c.loop-q.q ≡ true
-there c = sym c.is_attribute.ensures ∙ c.loop-q-test.true
+there : (c : After-is_attribute) → is_attribute c.args.s.now c.loop-q.q ≡ true
+there c = ?
 
 pub loop-q-init : goal.loop-q-init
 loop-q-init c = refl

@@ -21,7 +21,7 @@ Else-not-is_quote = lts.Else1 tie.the-claims reads.Pre reads.Post
 -- whether the byte at p is a quote; if so it stands in the text
 quoted : (c : tie.After-is-quote) → let a = c.args in
     c.is_quote.result ≡ is_quote (byte_at a.s.now a.p)
-quoted c = c.is_quote.ensures ∙ ap is_quote c.before.byte_at_lem.ensures
+quoted c = c.is_quote.ensures ∙ ap is_quote c.byte_at.ensures
 
 within : (c : Else-not-is_quote) → let a = c.args in a.p < length a.s.now
 within c =
@@ -62,4 +62,4 @@ returns c =
     (some_read _ e.numeral_at-end.ensures c.if-end-eq0.false
     (is_if_lt _ (omega (arith, capped_is c.number_at.ensures c.if-number_at-ge-MISSING.false))
     (read_at (λ x. expect d.args.s.now x e.numeral_at-end.result)
-    c.expect.ensures d.before.before.byte_at_lem.ensures)))
+    c.expect.ensures d.byte_at.ensures)))
