@@ -1,7 +1,6 @@
 -- `elements::root_end` meets its contract.
 use mathlib.Core.Path.{◌∙◌}
 use native.Mathlib.Omega.{arith}
-use borrow.Author.Rules.{rules}
 use Rattle.scanner.proofs.Progress.{byte_inside}
 use Rattle.elements.proofs.Rest.{rest_empty, rest_none, rest_bad, rest_filled}
 use Rattle.elements.proofs.root_end.Goals as goal
