@@ -60,7 +60,7 @@ member_pick x k h =
     value (suc zero) l = refl
     value (suc (suc b)) l = absurd (omega arith)
 
--- the members alone: a number below 2^columnBound with the same members, and the set's own number if all its bits are
+-- the members alone: a number below 2^column_bound with the same members, and the set's own number if all its bits are
 -- members
 pub members_lt : (x : ℕ) → members_of x < 2 ^ column_bound
 unfolding members_of

@@ -17,8 +17,8 @@ unfoldable pub cap : ℕ → ℕ
 cap room = if_lt room run_bound room run_bound
 
 -- The whole run is then one equation (`run_is_run_after_zeros` of proofs/WholeRun.antt):
---     run ≡ runAfter (listCode cat place budget (cap room) (length work))
---         (whole (ordinary cat) place budget (cap room)) (replicate runBound (entry 0 0 0))
+--     run ≡ run_after (list_code cat place budget (cap room) (length work))
+--         (whole (ordinary cat) place budget (cap room)) (replicate run_bound (entry 0 0 0))
 pub record FilledBy (cat : List ℕ) (place budget room : ℕ) (work : List ℕ) (answer : ListAnswer) (run : List Entry)
     (work_then : List ℕ)
     : Type 0 where
