@@ -11,12 +11,12 @@ spelt_in zero n f w = absurd (omega arith)
 spelt_in (suc fuel) n f w =
     elim (eq-zero-or-pos (10 - n)) [
       | inl none ↦
-        let high : 10 ≤ n = omega arith in
-        is_if_not_lt ((48 + n) ∷ []) high
-        (decimal_step n high w ∙ ap (λ l. l ++ ((48 + n % 10) ∷ [])) (spelt_in fuel (n / 10) (omega arith) (omega arith)))
+          let high : 10 ≤ n = omega arith in
+          is_if_not_lt ((48 + n) ∷ []) high
+          (decimal_step n high w ∙ ap (λ l. l ++ ((48 + n % 10) ∷ [])) (spelt_in fuel (n / 10) (omega arith) (omega arith)))
       | inr some ↦
-        let low : n < 10 = omega arith in
-        is_if_lt (decimal_in fuel (n / 10) ++ ((48 + n % 10) ∷ [])) low (decimal_digit n low)
+          let low : n < 10 = omega arith in
+          is_if_lt (decimal_in fuel (n / 10) ++ ((48 + n % 10) ∷ [])) low (decimal_digit n low)
     ]
 
 -- so for each number of 64 bits
