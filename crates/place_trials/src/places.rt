@@ -19,7 +19,7 @@ fn equal(a: Entry, b: Entry) -> bool {
 }
 
 // Are the first entries of one run those of another from an index on?
-fn stand_at(run: Filled, count: usize, other: Filled, from: usize) -> bool {
+fn stand_at(run: &Filled, count: usize, other: &Filled, from: usize) -> bool {
     let mut j = from;
     for i in 0..count {
         if i >= RUN_BOUND {
@@ -40,7 +40,7 @@ fn stand_at(run: Filled, count: usize, other: Filled, from: usize) -> bool {
 
 // The left side of the first entry that the call for one set gave, if it gave one, and whether its entries are those by
 // which the walk past the set has more than the walk up to it.
-fn print_same(rt: &impl Print, single: Filled, before: Filled, past: Filled) -> io::Result<()> {
+fn print_same(rt: &impl Print, single: &Filled, before: &Filled, past: &Filled) -> io::Result<()> {
     let a = single.answer;
     let b = before.answer;
     let c = past.answer;
@@ -72,7 +72,7 @@ fn at_place(rt: &impl Print, cat: &[u8], place: u32, work: &mut [u32]) -> io::Re
     let past = list_filled(cat, 0, place % 65536 + 1, RUN_BOUND, work);
     let answer = single.answer;
     print_listed(rt, answer)?;
-    print_same(rt, single, before, past)
+    print_same(rt, &single, &before, &past)
 }
 
 // The calls on the first n bytes.

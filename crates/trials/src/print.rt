@@ -21,7 +21,7 @@ fn is_zero(e: Entry) -> bool {
 }
 
 // How many records of the run are not zero, on the line.
-fn print_touched(rt: &impl Print, filled: Filled) -> io::Result<()> {
+fn print_touched(rt: &impl Print, filled: &Filled) -> io::Result<()> {
     let mut n: usize = 0;
     for e in &filled.run {
         if !is_zero(*e) {
@@ -32,7 +32,7 @@ fn print_touched(rt: &impl Print, filled: Filled) -> io::Result<()> {
 }
 
 // The first entries of the run, on the line.
-fn print_entries(rt: &impl Print, filled: Filled, count: u32) -> io::Result<()> {
+fn print_entries(rt: &impl Print, filled: &Filled, count: u32) -> io::Result<()> {
     for e in filled.run.iter().take(count as usize) {
         print_entry(rt, *e)?;
     }
@@ -70,10 +70,10 @@ fn on_words(
     print_word(rt, name)?;
     print_listed(rt, answer)?;
     print_word(rt, b" records")?;
-    print_touched(rt, filled)?;
+    print_touched(rt, &filled)?;
     print_word(rt, b" zeros")?;
     print_zeros(rt, work)?;
-    print_entries(rt, filled, entries(answer))?;
+    print_entries(rt, &filled, entries(answer))?;
     end(rt)
 }
 

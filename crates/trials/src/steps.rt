@@ -33,7 +33,7 @@ fn put(joined: &mut [u32], n: usize, e: Entry) -> usize {
 }
 
 // Joins the first entries of a run behind n.
-fn join(joined: &mut [u32], n: usize, filled: Filled, count: u32) -> usize {
+fn join(joined: &mut [u32], n: usize, filled: &Filled, count: u32) -> usize {
     let mut next = n;
     for e in filled.run.iter().take(count as usize) {
         next = put(joined, next, *e);
@@ -71,7 +71,7 @@ fn list_in_steps(
                         refusal: 0,
                     };
                 }
-                n = join(joined, n, filled, count);
+                n = join(joined, n, &filled, count);
                 held = place;
                 calls += 1;
             }
