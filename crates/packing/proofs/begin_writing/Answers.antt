@@ -38,12 +38,12 @@ returns-then-k-eq0 c = let h = sym c.too_short.ensures
 pub returns : goal.returns
 returns c = let h = sym c.too_short.ensures ∙ c.if-too_short.false in
     record {
-      on = λ es l z. begins_writing es _ _ _ l z h (λ y. omega arith) c.Going-on.ensures.0
-          c.Going-on.ensures.1 c.Going-on.ensures.2;
+      on = λ es l z. begins_writing es _ _ _ l z h (λ y. omega arith) c.going_on.ensures.0
+          c.going_on.ensures.1 c.going_on.ensures.2;
       few =
           omega (
             arith,
-            steps_writing c.args.k c.Going-on.result
-                c.Going-on.ensures.0 c.Going-on.ensures.1 c.Going-on.ensures.2,
+            steps_writing c.args.k c.going_on.result
+                c.going_on.ensures.0 c.going_on.ensures.1 c.going_on.ensures.2,
           );
     }

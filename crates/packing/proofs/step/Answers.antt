@@ -40,14 +40,14 @@ returns-then-at-k c = let a = c in
     let f = c.fine_after in
     record {
       on = λ es o l p on. step_more es o _ _ _ f.result a.requires.going z f.ensures l p on _
-          (ap not c.if-not-fine_after.false) (omega arith) c.Going-on.ensures.0 c.Going-on.ensures.1
-          c.Going-on.ensures.2 c.Going-on.ensures.3;
+          (ap not c.if-not-fine_after.false) (omega arith) c.going_on.ensures.0 c.going_on.ensures.1
+          c.going_on.ensures.2 c.going_on.ensures.3;
       fewer = omega (
         arith,
         a.requires.next,
         steps_checking a.args.k a.args.s a.requires.going z refl,
-        steps_checking a.args.k c.Going-on.result c.Going-on.ensures.0 c.Going-on.ensures.1
-            c.Going-on.ensures.2,
+        steps_checking a.args.k c.going_on.result c.going_on.ensures.0 c.going_on.ensures.1
+            c.going_on.ensures.2,
       );
     }
 

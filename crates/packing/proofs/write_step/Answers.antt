@@ -8,12 +8,12 @@ returns-then-at-k c =
     let p = c.put_entry.ensures in
     record {
       on = λ es o l e z q. wrote_more es o _ _ _ (omega arith) p l e z q _ (omega arith)
-          c.Going-on.ensures.0 c.Going-on.ensures.1 c.Going-on.ensures.2;
+          c.going_on.ensures.0 c.going_on.ensures.1 c.going_on.ensures.2;
       fewer =
           omega (
             arith,
             steps_writing c.args.k
-                c.Going-on.result c.Going-on.ensures.0 c.Going-on.ensures.1 c.Going-on.ensures.2,
+                c.going_on.result c.going_on.ensures.0 c.going_on.ensures.1 c.going_on.ensures.2,
           );
     }
 
