@@ -4,5 +4,3 @@ pub mod Round
 pub mod Opening
 pub mod Reading
 pub mod Filling
-pub mod Held
-pub mod Rest

@@ -3,11 +3,10 @@
 use Prim.Native.Nat.{ℕ, ◌+◌, ◌-◌, ◌≤◌, ◌<◌}
 use mathlib.Core.Path.{◌≡◌, refl, sym, ap, ap₂, ◌∙◌}
 use mathlib.Core.List.{List, [], ◌∷◌}
-use mathlib.Core.Bool.{Bool, true, false, not}
+use mathlib.Core.Bool.{Bool, true, false}
 use native.Mathlib.Decide.{ℕ_discrete}
 use native.Mathlib.Omega.{arith}
 use lib.ListN.{length, get_or}
-use borrow.Author.Tests.{not-true, not-false}
 use Rattle.columns.proofs.Test.{if_eq_yes, if_eq_no, is_if_eq, is_if_ne, is_if_lt, is_if_not_lt}
 use Rattle.model.specs.Refusal.{number}
 use Rattle.model.specs.Reply.{Reply, refused, answered, reply_of}
@@ -59,15 +58,15 @@ module _ (file : List ℕ) {d k : ℕ} (t : Bool) (h : trailer_bytes ≤ length 
   checked =
       r ∙ ap entries_code (ap₂ (λ (m n : ℕ). entries_from file m (length file - n)) q p) ∙ sym (or_else_next _ is_list)
 
-  pub bad_list : not t ≡ true → refused (number BadEntry) ≡ open_meaning file
+  pub bad_list : t ≡ false → refused (number BadEntry) ≡ open_meaning file
   unfolding open_meaning
-  bad_list n = reply_refused _ (sym (ap bad_unless (not-true t n)) ∙ checked) bad_some
+  bad_list n = reply_refused _ (sym (ap bad_unless n) ∙ checked) bad_some
 
-  pub good_list : not t ≡ false → answered (k ∷ (length file - d) ∷ []) ≡ open_meaning file
+  pub good_list : t ≡ true → answered (k ∷ (length file - d) ∷ []) ≡ open_meaning file
   unfolding open_meaning
   good_list n =
       ap₂ (λ (m n : ℕ). answered (m ∷ (length file - n) ∷ [])) q p
-      ∙ reply_answered _ (sym checked ∙ ap bad_unless (not-false t n))
+      ∙ reply_answered _ (sym checked ∙ ap bad_unless n)
 
 -- ---- a reply tells its code and its values, and so what opening answered tells what the file is
 abbrev values_in : Reply → List ℕ

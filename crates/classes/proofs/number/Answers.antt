@@ -16,7 +16,7 @@ pub loop-k-preserved : goal.loop-k-preserved
 loop-k-preserved c =
     let f = c.number_member-few.ensures in (
       omega arith,
-      numbered_more _ c.requires.1 f.0 f.1
+      numbered_more _ c.requires.1 f.only_member f.member_numbered
           c.loop-k.invariant.1,
     )
 

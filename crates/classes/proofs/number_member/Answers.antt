@@ -26,7 +26,7 @@ returns-then-count-eq0 c = record {
 pub loop-q-preserved : goal.loop-q-preserved
 loop-q-preserved c =
     let f = c.number_row-count.ensures in
-    (omega arith, only_then c.loop-q.invariant.1 f.0, f.1 (omega arith))
+    (omega arith, only_then c.loop-q.invariant.1 f.only_member, f.numbering_2 (omega arith))
 
 pub returns : goal.returns
 returns c =

@@ -11,7 +11,7 @@ use Rattle.climb.proofs.parent_rows.Reads as reads
 use Rattle.climb.proofs.parent_rows.Goals as goal
 
 abbrev After-index-x : Type 0
-After-index-x = lts.After-index tie.the-claims reads.Pre reads.Post goal.the-invariant-loop-q goal.the-decreases-loop-q
+After-index-x = lts.After-index tie.the-claims reads.Pre reads.Post goal.the-invariant-loop-q goal.the-decreases-loop-q tie.handed_clauses
 
 pub loop-q-init : goal.loop-q-init
 loop-q-init c = (omega arith, filled_none)

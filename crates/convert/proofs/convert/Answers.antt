@@ -25,7 +25,7 @@ unfolding convert_meaning
 returns-then-code-ne0 c =
     let a = c.args in
     let n = c.if-code-ne0.true in
-    let e = convert_first a.shape.now a.text.now (length a.out-1.now)
+    let e = convert_first a.shape.now a.text.now (length a.out.now)
     c.text_code-code.ensures n in record {
       result_value = reply_refused _ (c.refusal.ensures ∙ e) (λ z. n (sym c.refusal.ensures ∙ z));
       out_after = output_kept _ _ _ (λ z. n (e ∙ z));
@@ -42,7 +42,7 @@ full_code-full-requires c =
 pub refusal-requires-then-full-ne0 : goal.refusal-requires-then-full-ne0
 refusal-requires-then-full-ne0 c =
     let a = c.args in
-    let l = full_code_le a.shape.now a.text.now (length a.out-1.now) in
+    let l = full_code_le a.shape.now a.text.now (length a.out.now) in
     let e = c.full_code-full.ensures in
     let n = c.if-full-ne0.true in
     (omega arith, omega arith)
@@ -55,7 +55,7 @@ returns-then-full-ne0 c =
     let fit = sym k.text_code-code.ensures ∙ k.if-code-ne0.false in
     let ok = text_accepted a.shape.now a.text.now fit in
     let n = c.if-full-ne0.true in
-    let e = convert_second a.shape.now a.text.now (length a.out-1.now) fit
+    let e = convert_second a.shape.now a.text.now (length a.out.now) fit
     c.full_code-full.ensures in record {
       result_value = reply_refused _ (c.refusal-then-full-ne0.ensures ∙ e) (λ z. n (sym c.refusal-then-full-ne0.ensures ∙ z));
       out_after = output_kept _ _ _ (λ z. n (e ∙ z));
@@ -111,7 +111,7 @@ returns c =
     let e = c.size-bytes.ensures
     ∙ size_converted a.shape.now a.text.now k.count_rows-counts.result
     (accepted_tables a.shape.now ok) counted in
-    let z = sym (convert_second a.shape.now a.text.now (length a.out-1.now) fit (sym full)) in record {
+    let z = sym (convert_second a.shape.now a.text.now (length a.out.now) fit (sym full)) in record {
       result_value = ap (λ n. answered (n ∷ [])) e ∙ reply_answered _ z;
-      out_after = output_written a.shape.now a.text.now a.out-1.now z c.write.ensures;
+      out_after = output_written a.shape.now a.text.now a.out.now z c.write.ensures;
     }

@@ -20,7 +20,7 @@ use Rattle.coverage.proofs.target_covered.Reads as reads
 use Rattle.coverage.proofs.target_covered.Goals as goal
 
 abbrev Start : Type 0
-Start = lts.Start tie.the-claims reads.Pre reads.Post goal.the-invariant-loop-a goal.the-decreases-loop-a
+Start = lts.Start tie.the-claims reads.Pre reads.Post goal.the-invariant-loop-a goal.the-decreases-loop-a tie.handed_clauses
 
 -- a target has no more visible columns than the bound
 few : (s : Start) → visible s.args.cat.now s.args.target ≤ column_bound

@@ -9,17 +9,17 @@ use Rattle.dependency.proofs.ask.Goals as goal
 pub refusal-requires : goal.refusal-requires
 refusal-requires c =
     let a = c.args in
-    refused_number a.cat.now a.target a.left a.right (length a.work-1.now)
+    refused_number a.cat.now a.target a.left a.right (length a.work.now)
     c.question_code-code.ensures c.if-code-ne0.true
 
 pub returns-then-code-ne0 : goal.returns-then-code-ne0
 returns-then-code-ne0 c =
     let a = c.args in
     let reply =
-    ask_refused a.cat.now a.target a.left a.right (length a.work-1.now) c.refusal.result
+    ask_refused a.cat.now a.target a.left a.right (length a.work.now) c.refusal.result
     c.question_code-code.ensures c.if-code-ne0.true c.refusal.ensures in
     let words =
-    words_kept a.cat.now a.target a.left a.right a.work-1.now
+    words_kept a.cat.now a.target a.left a.right a.work.now
     c.question_code-code.ensures c.if-code-ne0.true in
     record {
       result_value = reply;
@@ -29,7 +29,7 @@ returns-then-code-ne0 c =
 pub holds-requires : goal.holds-requires
 holds-requires c =
     let a = c.args in
-    question_posed a.cat.now a.target a.left a.right (length a.work-1.now)
+    question_posed a.cat.now a.target a.left a.right (length a.work.now)
     c.question_code-code.ensures c.if-code-ne0.false
 
 pub returns-then-holds : goal.returns-then-holds
@@ -38,10 +38,10 @@ returns-then-holds c =
     let e = c.question_code-code.ensures in
     let z = c.if-code-ne0.false in
     let reply =
-    ask_told a.cat.now a.target a.left a.right (length a.work-1.now) true e z
+    ask_told a.cat.now a.target a.left a.right (length a.work.now) true e z
     (sym c.if-holds.true ∙ c.holds.ensures) in
     let words =
-    words_zeroed a.cat.now a.target a.left a.right a.work-1.now e z
+    words_zeroed a.cat.now a.target a.left a.right a.work.now e z
     c.zero_words.ensures in
     record {
       result_value = reply;
@@ -54,10 +54,10 @@ returns c =
     let e = c.question_code-code.ensures in
     let z = c.if-code-ne0.false in
     let reply =
-    ask_told a.cat.now a.target a.left a.right (length a.work-1.now) false e z
+    ask_told a.cat.now a.target a.left a.right (length a.work.now) false e z
     (sym c.if-holds.false ∙ c.holds.ensures) in
     let words =
-    words_zeroed a.cat.now a.target a.left a.right a.work-1.now e z
+    words_zeroed a.cat.now a.target a.left a.right a.work.now e z
     c.zero_words.ensures in
     record {
       result_value = reply;

@@ -9,17 +9,17 @@ use Rattle.dependency.proofs.pair.Goals as goal
 pub refusal-requires : goal.refusal-requires
 refusal-requires c =
     let a = c.args in
-    refused_number a.cat.now a.target a.left a.right (length a.work-1.now)
+    refused_number a.cat.now a.target a.left a.right (length a.work.now)
     c.question_code-code.ensures c.if-code-ne0.true
 
 pub returns-then-code-ne0 : goal.returns-then-code-ne0
 returns-then-code-ne0 c =
     let a = c.args in
     let reply =
-    pair_refused a.cat.now a.target a.left a.right (length a.work-1.now) c.refusal.result
+    pair_refused a.cat.now a.target a.left a.right (length a.work.now) c.refusal.result
     c.question_code-code.ensures c.if-code-ne0.true c.refusal.ensures in
     let words =
-    words_kept a.cat.now a.target a.left a.right a.work-1.now
+    words_kept a.cat.now a.target a.left a.right a.work.now
     c.question_code-code.ensures c.if-code-ne0.true in
     record {
       result_value = reply;
@@ -29,7 +29,7 @@ returns-then-code-ne0 c =
 pub breaking_pair-requires : goal.breaking_pair-requires
 breaking_pair-requires c =
     let a = c.args in
-    question_posed a.cat.now a.target a.left a.right (length a.work-1.now)
+    question_posed a.cat.now a.target a.left a.right (length a.work.now)
     c.question_code-code.ensures c.if-code-ne0.false
 
 pub returns-in-Pair : goal.returns-in-Pair
@@ -38,10 +38,10 @@ returns-in-Pair c =
     let e = c.question_code-code.ensures in
     let z = c.if-code-ne0.false in
     let reply =
-    pair_told a.cat.now a.target a.left a.right (length a.work-1.now) e z
+    pair_told a.cat.now a.target a.left a.right (length a.work.now) e z
     (sym (ap rows_found c.first-1.given.1) ∙ c.breaking_pair.ensures) in
     let words =
-    words_zeroed a.cat.now a.target a.left a.right a.work-1.now e z
+    words_zeroed a.cat.now a.target a.left a.right a.work.now e z
     c.zero_words.ensures in
     record {
       result_value = reply;
@@ -54,10 +54,10 @@ returns-in-Nothing c =
     let e = c.question_code-code.ensures in
     let z = c.if-code-ne0.false in
     let reply =
-    pair_told a.cat.now a.target a.left a.right (length a.work-1.now) e z
+    pair_told a.cat.now a.target a.left a.right (length a.work.now) e z
     (sym (ap rows_found c.enum_told-1.given.1) ∙ c.breaking_pair.ensures) in
     let words =
-    words_zeroed a.cat.now a.target a.left a.right a.work-1.now e z
+    words_zeroed a.cat.now a.target a.left a.right a.work.now e z
     c.zero_words.ensures in
     record {
       result_value = reply;

@@ -20,13 +20,13 @@ use Rattle.keys.proofs.lay.Reads as reads
 use Rattle.keys.proofs.lay.Goals as goal
 
 abbrev At-loop-reached : Type 0
-At-loop-reached = lts.At-loop tie.the-claims reads.Pre reads.Post goal.the-invariant-loop-reached goal.the-decreases-loop-reached
+At-loop-reached = lts.At-loop tie.the-claims reads.Pre reads.Post goal.the-invariant-loop-reached goal.the-decreases-loop-reached tie.handed_clauses
 
 abbrev After-index-c : Type 0
-After-index-c = lts.After-index2 tie.the-claims reads.Pre reads.Post goal.the-invariant-loop-reached goal.the-decreases-loop-reached
+After-index-c = lts.After-index2 tie.the-claims reads.Pre reads.Post goal.the-invariant-loop-reached goal.the-decreases-loop-reached tie.handed_clauses
 
 abbrev Else-set-power-eq0 : Type 0
-Else-set-power-eq0 = lts.Else1 tie.the-claims reads.Pre reads.Post goal.the-invariant-loop-reached goal.the-decreases-loop-reached
+Else-set-power-eq0 = lts.Else1 tie.the-claims reads.Pre reads.Post goal.the-invariant-loop-reached goal.the-decreases-loop-reached tie.handed_clauses
 
 pub own_rows-requires : goal.own_rows-requires
 own_rows-requires c =
@@ -36,7 +36,7 @@ own_rows-requires c =
         arith,
         c.index-end.ensures,
         c.rows.ensures,
-        accepted_rows a.cat.now h.0 a.target h.1.0,
+        accepted_rows a.cat.now h.accepted a.target h.target_bound,
       ),
       length-replicate {A = ℕ} row_bound 0,
     )
@@ -45,10 +45,10 @@ pub loop-reached-init : goal.loop-reached-init
 loop-reached-init c =
     let a = c.args in
     let h = c.requires in
-    laying_begun a.cat.now a.target a.n a.set c.index-end.result _ _ _ h.1.0
-    h.1.1.0
+    laying_begun a.cat.now a.target a.n a.set c.index-end.result _ _ _ h.target_bound
+    h.n_value
     (c.index-end.ensures ∙ c.rows.ensures) (length-replicate {A = ℕ} row_bound 0)
-    h.1.1.1
+    h.keys_len
     c.own_rows.ensures
 
 -- the bytes, accepted; the target's rows; and where the table stands and how many columns it has
@@ -125,7 +125,7 @@ short c =
       arith,
       ends c,
       accepted_rows (bytes c) (ok c)
-          c.args.target h.1.0,
+          c.args.target h.target_bound,
     )
 
 within : (c : After-index-c) (q : ℕ)

@@ -20,8 +20,8 @@ pub fill_words-requires : goal.fill_words-requires
 fill_words-requires c =
     let h = c.requires in
     let l = c.loop-j in record {
-      end_le_row_bound = (h.0.2, l.invariant.1);
-      by_index = λ q m. omega (arith, h.1 q m, l.invariant.0, c.loop-j-test.true);
+      end_le_row_bound = (h.o_bound.2, l.invariant.1);
+      by_index = λ q m. omega (arith, h.by_index q m, l.invariant.0, c.loop-j-test.true);
     }
 
 pub group-requires : goal.group-requires
@@ -36,7 +36,7 @@ put_keys-requires c =
     let i = c in
     let h = i.requires in
     let v = i.loop-j.invariant in
-    (omega (arith, v.0, i.loop-j-test.true), h.0.2, v.3.same_length ∙ h.0.3)
+    (omega (arith, v.0, i.loop-j-test.true), h.o_bound.2, v.3.same_length ∙ h.o_bound.3)
 
 pub loop-j-preserved : goal.loop-j-preserved
 loop-j-preserved c =

@@ -15,8 +15,8 @@ returns-then-few-power c =
     let f = c.numbered_line.ensures in record {
       line_of = line_all a.keys.now a.bytes.now a.few a.x a.n a.end 0 s.requires.n_le_column_bound.0 (omega arith)
           (none_left a.few a.n _ c.power.ensures c.if-few-power.true) s.requires.numbered
-          (line_none a.keys.now a.bytes.now a.few a.x f.0);
-      low_len_2 = f.1;
+          (line_none a.keys.now a.bytes.now a.few a.x f.line_of);
+      low_len_2 = f.low_len_2;
     }
 
 pub returns : goal.returns
@@ -26,6 +26,6 @@ returns c =
     let f = c.numbered_line.ensures in record {
       line_of = line_all a.keys.now a.bytes.now a.few a.x a.n a.end a.n s.requires.n_le_column_bound.0 (le_refl _)
           (λ k l z. l) s.requires.numbered
-          (c.add_wide.ensures a.bytes.now (line_none a.keys.now a.bytes.now a.few a.x f.0));
-      low_len_2 = f.1;
+          (c.add_wide.ensures a.bytes.now (line_none a.keys.now a.bytes.now a.few a.x f.line_of));
+      low_len_2 = f.low_len_2;
     }

@@ -8,7 +8,7 @@ use Rattle.pages.proofs.Whole.{counted_more, counted_few, counted_none}
 use Rattle.pages.proofs.count_from.Goals as goal
 
 -- what the call in the loop gave
-given : (c : lts.After-known-told (list-filled-reads.Asked, list-filled-reads.Learnt) reads.Pre reads.Post invariant-loop
+given : (c : lts.After-known-told (list-filled-reads.Asked, list-filled-reads.Learnt) reads.Pre reads.Post tie.handed_clauses invariant-loop
     decreases-loop)
     → Ran
     (cells
@@ -22,7 +22,7 @@ given c =
     let start = c in
     let loop = c.loop-from in
     let call = c.list_filled-filled in
-    ran start.args.cat.now start.args.last start.requires.listable loop.from (omega arith) loop.work-1
+    ran start.args.cat.now start.args.last start.requires.listable loop.from (omega arith) loop.work
     (omega arith) _ _ _
     call.result.answer call.result.run _ call.ensures c.answer-1.given.1
 
@@ -47,7 +47,7 @@ returns-in-Refused c =
     let loop = c.loop-from in
     let call = c.list_filled-filled in
     absurd
-    (filled_answers start.args.cat.now start.args.last start.requires.listable loop.from (omega arith) loop.work-1
+    (filled_answers start.args.cat.now start.args.last start.requires.listable loop.from (omega arith) loop.work
     (omega arith) _
     call.result.answer call.result.run _ call.ensures c.enum_told-1.given.1)
 

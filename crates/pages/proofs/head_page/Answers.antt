@@ -19,7 +19,7 @@ given : (c : lts.After-count-from-arg (
   put-head-reads.Learnt,
   put-run-reads.Asked,
   put-run-reads.Learnt,
-) reads.Pre reads.Post)
+) reads.Pre reads.Post tie.handed_clauses)
     → Ran
     (cells
     (ordinary c.args.cat.now))

@@ -9,7 +9,7 @@ use Rattle.pages.proofs.next_page.Goals as goal
 
 -- what the call gave
 given : (c : lts.After-put-run-arg
-    (list-filled-reads.Asked, list-filled-reads.Learnt, put-run-reads.Asked, put-run-reads.Learnt) reads.Pre reads.Post)
+    (list-filled-reads.Asked, list-filled-reads.Learnt, put-run-reads.Asked, put-run-reads.Learnt) reads.Pre reads.Post tie.handed_clauses)
     → Ran
     (cells
     (ordinary c.args.cat.now))

@@ -12,12 +12,6 @@ use Rattle.partition.specs.Partition.{key_bound, leader_word}
 use Rattle.partition.proofs.Leading.{led_joined}
 use Rattle.partition.proofs.join.Goals as goal
 
--- the words of the rows below q are made, and their keys are short
-record WordsBelow (keys : List ℕ) (k end : ℕ) (leaders before ws : List ℕ) (q : ℕ) : Type 0 where
-  pub within : q ≤ end
-  pub words : Filled 0 q (λ i. leader_word (get_or leaders i 0) (key_at keys k i)) before ws
-  pub small : (i : ℕ) → i < q → key_at keys k i < key_bound
-
 pub loop-q-init : goal.loop-q-init
 loop-q-init c = record { within = omega arith; words = filled_none; small = λ i l. absurd (omega arith) }
 
@@ -26,7 +20,7 @@ loop-q-preserved c =
     let f = c.loop-q.invariant in
     record {
       within = omega arith;
-      words = filled_more f.words-1 (omega arith) (omega arith) (omega (arith, length-replicate {A = ℕ} row_bound 0))
+      words = filled_more f.words (omega arith) (omega arith) (omega (arith, length-replicate {A = ℕ} row_bound 0))
           c.word.ensures.1;
       small = below_more f.small c.word.ensures.0;
     }
@@ -35,4 +29,4 @@ pub returns : goal.returns
 returns c =
     let f = c.loop-q.invariant in
     λ x s i led. led_joined _ _ x _ _ s led _ _ _ i
-    (λ q l. (f.small q (omega arith), filled_first f.words-1 q (omega arith))) c.group.ensures
+    (λ q l. (f.small q (omega arith), filled_first f.words q (omega arith))) c.group.ensures

@@ -9,13 +9,8 @@ use Rattle.filled.specs.Filled.{Filled}
 use Rattle.filled.proofs.Filled.{filled_none, filled_more, filled_first}
 use Rattle.partition.specs.Partition.{Led}
 use Rattle.partition.proofs.Leading.{led_begun}
+use Rattle.partition.proofs.lead_by_first.Invariants.{LedByFirst}
 use Rattle.partition.proofs.lead_by_first.Goals as goal
-
--- row 0 leads the rows below q, and the others of them follow it
-record LedByFirst (end : ℕ) (before leaders : List ℕ) (followers q : ℕ) : Type 0 where
-  pub within : q ≤ end
-  pub others : followers ≡ q - 1
-  pub zeros : Filled 0 q (λ i. 0) before leaders
 
 done : (end : ℕ) (before leaders : List ℕ) (followers q : ℕ) → LedByFirst end before leaders followers q
     → length before ≡ row_bound → end ≤ q → (keys : List ℕ) (x : ℕ) → Led keys 0 end x leaders followers

@@ -14,11 +14,8 @@ use Rattle.leaders.specs.Keys.{key_view}
 use Rattle.filled.proofs.Below.{below_more}
 use Rattle.partition.specs.Partition.{Given, Spares, Needs}
 use Rattle.partition.proofs.Rights.{needed_rights}
+use Rattle.partition.proofs.minimal_alone.Invariants.{Kept}
 use Rattle.partition.proofs.minimal_alone.Goals as goal
-
-record Kept (keys : List ℕ) (n end x start kept k : ℕ) : Type 0 where
-  pub within : k ≤ n
-  pub is : (a : ℕ) → (bit kept a ≡ 1) ↔ ((bit start a ≡ 1) × Needs keys n end x k a)
 
 begun : (keys : List ℕ) (n end x start : ℕ) → Kept keys n end x start start 0
 begun keys n end x start = record { within = omega arith; is = λ a. (λ e. (e, λ k l. absurd (omega arith)), λ f. f.0) }

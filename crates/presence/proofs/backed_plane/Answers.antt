@@ -13,7 +13,7 @@ use Rattle.presence.proofs.backed_plane.Reads as reads
 use Rattle.presence.proofs.backed_plane.Goals as goal
 
 abbrev After-index-end : Type 0
-After-index-end = lts.After-index tie.the-claims reads.Pre reads.Post
+After-index-end = lts.After-index tie.the-claims reads.Pre reads.Post tie.handed_clauses
 
 -- the sets laid are those of all rows
 ends : (c : After-index-end)

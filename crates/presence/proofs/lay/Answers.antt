@@ -12,7 +12,7 @@ use Rattle.presence.proofs.lay.Reads as reads
 use Rattle.presence.proofs.lay.Goals as goal
 
 abbrev At-loop-q : Type 0
-At-loop-q = lts.At-loop tie.the-claims reads.Pre reads.Post goal.the-invariant-loop-q goal.the-decreases-loop-q
+At-loop-q = lts.At-loop tie.the-claims reads.Pre reads.Post goal.the-invariant-loop-q goal.the-decreases-loop-q tie.handed_clauses
 
 pub loop-q-init : goal.loop-q-init
 loop-q-init c = (filled_none, omega arith)
@@ -32,9 +32,9 @@ pub present_set-requires : goal.present_set-requires
 present_set-requires c =
     let h = c.requires in
     record {
-      accepted = h.0;
-      target_bound = h.1.0;
-      n_value = h.1.1.0;
+      accepted = h.accepted;
+      target_bound = h.target_bound;
+      n_value = h.n_value;
       p_bound = omega (arith, ends c.before.before);
     }
 

@@ -16,7 +16,7 @@ pub mark-requires : goal.mark-requires
 mark-requires c =
     let s = c in
     let l = c.loop-q in
-    place_inside s.args.m (word s.args.sets.now l.q) l.plane-1 (room_kept l.invariant.1 s.requires.1)
+    place_inside s.args.m (word s.args.sets.now l.q) l.plane (room_kept l.invariant.1 s.requires.1)
     (s.requires.2 l.q (omega arith))
 
 pub loop-q-smaller : goal.loop-q-smaller
@@ -35,4 +35,4 @@ pub returns : goal.returns
 returns c =
     let a = c.args in
     let l = c.loop-q in
-    subst (λ (k : ℕ). Marked (LaidSet a.sets.now k) a.plane-1.now l.plane-1) (omega arith) l.invariant.0
+    subst (λ (k : ℕ). Marked (LaidSet a.sets.now k) a.plane.now l.plane) (omega arith) l.invariant.0

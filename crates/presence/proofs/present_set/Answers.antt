@@ -17,10 +17,10 @@ use Rattle.presence.proofs.present_set.Reads as reads
 use Rattle.presence.proofs.present_set.Goals as goal
 
 abbrev At-loop-above : Type 0
-At-loop-above = lts.At-loop tie.the-claims reads.Pre reads.Post goal.the-invariant-loop-above goal.the-decreases-loop-above
+At-loop-above = lts.At-loop tie.the-claims reads.Pre reads.Post goal.the-invariant-loop-above goal.the-decreases-loop-above tie.handed_clauses
 
 abbrev After-index-c : Type 0
-After-index-c = lts.After-index tie.the-claims reads.Pre reads.Post goal.the-invariant-loop-above goal.the-decreases-loop-above
+After-index-c = lts.After-index tie.the-claims reads.Pre reads.Post goal.the-invariant-loop-above goal.the-decreases-loop-above tie.handed_clauses
 
 pub loop-above-init : goal.loop-above-init
 loop-above-init c =

@@ -13,7 +13,7 @@ use Rattle.rights.proofs.back_table.Reads as reads
 use Rattle.rights.proofs.back_table.Goals as goal
 
 abbrev Start : Type 0
-Start = lts.Start tie.the-claims reads.Pre reads.Post
+Start = lts.Start tie.the-claims reads.Pre reads.Post tie.handed_clauses
 
 few : (s : Start) → s.args.n ≤ column_bound
 few s =

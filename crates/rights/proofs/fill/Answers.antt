@@ -42,8 +42,8 @@ returns-then-work-power c =
     λ own.
     holds_seeds v own _ _ _ p.2.members (narrow_wide _ _ p.1 (omega (arith, w)))
     (omega (arith, narrow_fits s.args.n _ p.1 p.2.few))
-    (g.0 v p.2 (view_equivalence cat s.args.target))
-    g.1
+    (g.sown v p.2 (view_equivalence cat s.args.target))
+    g.n_after
     c.back_seeds.ensures
 
 pub write-requires : goal.write-requires

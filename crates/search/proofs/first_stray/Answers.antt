@@ -16,16 +16,16 @@ pub loop-q-init : goal.loop-q-init
 loop-q-init c =
     let a = c.args in
     let s = c.requires in
-    before_begun a.keys.now a.leaders.now a.right a.end s.0.0 a.marks.now
+    before_begun a.keys.now a.leaders.now a.right a.end s.lower_leaders.0 a.marks.now
     c.rows.p c.row_after-q.result
-    s.1 c.row_after-q.ensures (omega arith) c.rows.invariant
+    s.marked_below c.row_after-q.ensures (omega arith) c.rows.invariant
 
 pub follows-requires : goal.follows-requires
 follows-requires c =
     let s = c.requires in
-    let i = s.0.0.short in
-    let l = s.0.0.lower c.loop-q.q (omega arith) in
-    (omega arith, omega arith, s.0.1)
+    let i = s.lower_leaders.0.short in
+    let l = s.lower_leaders.0.lower c.loop-q.q (omega arith) in
+    (omega arith, omega arith, s.lower_leaders.1)
 
 pub overflow_cast-found : goal.overflow_cast-found
 overflow_cast-found c = let i = c.requires.lower_leaders.0.short in omega arith

@@ -9,7 +9,7 @@ put_head-requires c =
     let start = c in
     let a = start.args in
     head_room a.shape.now (tags_in a.s.now) a.table c.columns-columns.ensures
-    c.parent-above.ensures a.out-1.now a.at start.requires.3
+    c.parent-above.ensures a.out.now a.at start.requires.3
 
 pub put_rows-requires : goal.put_rows-requires
 put_rows-requires c =
@@ -20,7 +20,7 @@ put_rows-requires c =
       omega arith,
       omega arith,
       rows_room a.shape.now (tags_in a.s.now) a.table head.columns-columns.ensures
-          head.parent-above.ensures a.out-1.now a.at head.put_head.new.out a.count
+          head.parent-above.ensures a.out.now a.at head.put_head.new.out a.count
           start.requires.3 head.put_head.ensures,
     )
 
@@ -30,5 +30,5 @@ returns c =
     let start = head in
     let a = start.args in
     table_put a.shape.now (tags_in a.s.now) a.table head.columns-columns.ensures
-    head.parent-above.ensures a.out-1.now a.at _ _ _ a.count start.requires.2
+    head.parent-above.ensures a.out.now a.at _ _ _ a.count start.requires.2
     head.put_head.ensures c.put_rows.ensures

@@ -9,7 +9,7 @@ returns c =
     let starts = c in
     let a = starts.args in
     let n = tables a.shape.now in
-    trailer_put a.out-1.now _ _ _ a.at _ n (starts_in a.shape.now a.counts.now n 0 0)
+    trailer_put a.out.now _ _ _ a.at _ n (starts_in a.shape.now a.counts.now n 0 0)
     starts.tables-n.ensures (starts_long a.shape.now a.counts.now n 0 0)
     starts.put_starts.ensures c.put_u16.ensures
     c.put_u32.ensures

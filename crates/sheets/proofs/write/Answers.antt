@@ -9,7 +9,7 @@ put_tables-end-requires c =
     let a = start.args in (
       start.requires.0,
       start.requires.1,
-      tables_room a.shape.now a.text.now a.out-1.now start.requires.3,
+      tables_room a.shape.now a.text.now a.out.now start.requires.3,
     )
 
 pub put_trailer-requires : goal.put_trailer-requires
@@ -19,7 +19,7 @@ put_trailer-requires c =
     let a = start.args in (
       start.requires.0,
       start.requires.2,
-      trailer_room a.shape.now a.text.now a.out-1.now start.requires.3 put.put_tables-end.new.out _
+      trailer_room a.shape.now a.text.now a.out.now start.requires.3 put.put_tables-end.new.out _
           put.put_tables-end.ensures,
     )
 
@@ -29,5 +29,5 @@ returns c =
     let start = put in
     let a = start.args in
     whole_put a.shape.now a.text.now a.counts.now (accepted_tables a.shape.now start.requires.0)
-    start.requires.1 a.out-1.now _ _ _ start.requires.3 put.put_tables-end.ensures
+    start.requires.1 a.out.now _ _ _ start.requires.3 put.put_tables-end.ensures
     c.put_trailer.ensures

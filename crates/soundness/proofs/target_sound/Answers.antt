@@ -21,7 +21,7 @@ use Rattle.soundness.proofs.target_sound.Reads as reads
 use Rattle.soundness.proofs.target_sound.Goals as goal
 
 abbrev Start : Type 0
-Start = lts.Start tie.the-claims reads.Pre reads.Post
+Start = lts.Start tie.the-claims reads.Pre reads.Post tie.handed_clauses
 
 -- a target has no more visible columns than the bound
 few : (s : Start) → visible s.args.cat.now s.args.target ≤ column_bound

@@ -26,7 +26,7 @@ loop-p-smaller c = omega (arith, c.next_tag-p-in-loop-p.ensures.low)
 pub loop-p-preserved : goal.loop-p-preserved
 loop-p-preserved c =
     let l = c.loop-p in
-    counting_more _ l.p c.number_at-n.result _ l.counts-1 _ l.invariant (omega arith)
+    counting_more _ l.p c.number_at-n.result _ l.counts _ l.invariant (omega arith)
     c.number_at-n.ensures c.count_one.ensures c.next_tag-p-in-loop-p.ensures
 
 pub returns : goal.returns

@@ -11,7 +11,7 @@ use Rattle.keys.proofs.column.fill_words.Reads as reads
 use Rattle.keys.proofs.column.fill_words.Goals as goal
 
 abbrev After-index : Type 0
-After-index = lts.After-index tie.the-claims reads.Pre reads.Post goal.the-invariant-loop-q goal.the-decreases-loop-q
+After-index = lts.After-index tie.the-claims reads.Pre reads.Post goal.the-invariant-loop-q goal.the-decreases-loop-q tie.handed_clauses
 
 pub loop-q-init : goal.loop-q-init
 loop-q-init c = (omega arith, filling_begun _ _ _ _ _)

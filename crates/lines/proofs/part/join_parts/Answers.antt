@@ -9,7 +9,7 @@ use Rattle.lines.proofs.part.join_parts.Reads as reads
 use Rattle.lines.proofs.part.join_parts.Goals as goal
 
 abbrev After-wide-in-loop-q : Type 0
-After-wide-in-loop-q = lts.After-wide2 tie.the-claims reads.Pre reads.Post goal.the-invariant-loop-q goal.the-decreases-loop-q
+After-wide-in-loop-q = lts.After-wide2 tie.the-claims reads.Pre reads.Post goal.the-invariant-loop-q goal.the-decreases-loop-q tie.handed_clauses
 
 pub loop-q-init : goal.loop-q-init
 loop-q-init c = line_begun _ _ _ c.requires.2

@@ -12,7 +12,7 @@ pub note-requires : goal.note-requires
 note-requires c =
     let l = c.loop-q.invariant in
     let h = c.requires in
-    (h.1 _ l.0 c.loop-q-test.true, l.2.same_length ∙ h.0.2)
+    (h.by_index _ l.0 c.loop-q-test.true, l.2.same_length ∙ h.from_le_end.2)
 
 pub loop-q-preserved : goal.loop-q-preserved
 loop-q-preserved c =

@@ -45,11 +45,11 @@ pub loop-x-preserved : goal.loop-x-preserved
 loop-x-preserved c =
     let f = c.line_of.ensures in (
       omega arith,
-      seen_more c.loop-x-test.true f.0
+      seen_more c.loop-x-test.true f.line_of
           c.note_line.ensures c.loop-x.invariant.1,
-      f.1.0,
-      f.1.1,
-      f.0.long,
+      f.low_len_2.0,
+      f.low_len_2.1,
+      f.line_of.long,
     )
 
 pub returns : goal.returns
