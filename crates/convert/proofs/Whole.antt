@@ -1,14 +1,13 @@
 -- The conversion from its parts: its first ground, what is known where there is none, and the file's size.
 use Prim.Native.Nat.{ℕ, zero, suc, ◌+◌, ◌*◌, ◌≤◌, ◌<◌}
 use mathlib.Core.Path.{◌≡◌, refl, sym, ap, subst, ◌∙◌}
-use mathlib.Core.List.{List, [], ◌∷◌, ◌++◌}
+use mathlib.Core.List.{List, ◌++◌}
 use native.Mathlib.Nat.{zero-add, mul-le-mul}
 use native.Mathlib.Omega.{arith}
-use lib.ListN.{length, drop, get_or}
-use Rattle.columns.specs.Bound.{column_bound}
+use lib.ListN.{length, drop}
 use Rattle.columns.proofs.Test.{is_if_eq, is_if_ne}
-use Rattle.model.specs.Bounds.{table_bound, row_bound}
-use Rattle.model.specs.Refusal.{number, last_refusal, or_else, first_of}
+use Rattle.model.specs.Bounds.{row_bound}
+use Rattle.model.specs.Refusal.{last_refusal, or_else, first_of}
 use Rattle.model.specs.Catalogue.{tables, columns}
 use Rattle.model.specs.Check.{Accepted, check_code}
 use Rattle.model.specs.Convert.{Tag, tags_in, count_of, converted, form_code, empty_code, fit_code, many_code, full_code}

@@ -5,7 +5,7 @@ ghost use Rattle.model.specs.Bounds.{row};
 ghost use Rattle.model.specs.Catalogue.{rows as rows_of, visible as visible_of};
 ghost use Rattle.model.specs.Pair.{first_pair};
 ghost use Rattle.model.specs.Target.{view};
-ghost use Rattle.model.specs.View.{holds as holdsIn};
+ghost use Rattle.model.specs.View.{holds as holds_in};
 ghost use Rattle.leaders.specs.Keys.{Keyed, keys_size};
 ghost use Rattle.search.specs.Strays.{rows_found};
 ghost use Rattle.dependency.specs.Posed.{Posed, members_asked, right_bit};
@@ -59,7 +59,7 @@ fn lay_question(cat: &[u8], target: u32, left: u32, right: u32, keys: &mut [u16;
 // Does the dependency hold?
 pub fn holds(cat: &[u8], target: u32, left: u32, right: u32) -> bool
     requires { Posed cat.now target left right }
-    ensures { result ≡ holdsIn (view cat.now target) left right }
+    ensures { result ≡ holds_in (view cat.now target) left right }
 {
     let mut keys = [0u16; SIZE];
     lay_question(cat, target, left, right, &mut keys);

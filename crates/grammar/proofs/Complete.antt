@@ -1,5 +1,5 @@
 -- Where an element or content is spelled and the test takes each of its rows, it is read.
-use Prim.Native.Nat.{ℕ, suc, ◌+◌}
+use Prim.Native.Nat.{ℕ, zero, suc, ◌+◌}
 use mathlib.Core.Path.{◌≡◌, ap, ◌∙◌}
 use mathlib.Core.Bool.{Bool, true, false}
 use mathlib.Core.List.{List, [], ◌∷◌, ◌++◌}
@@ -98,6 +98,7 @@ content_by_lem (more {d} {l = l} {rest = rest} w h o c) s fits up p q law e t x 
 pub element_complete : (s : List ℕ) (fits : ℕ → ℕ → Cells → Bool) (d up : ℕ) (l : List ℕ) (n : ℕ) (cells : Cells)
     (inside : Forest) (p q : ℕ) → Element d l n cells inside → Stands s p l q → T (fits up (capped n) cells)
     → TakenIn fits (capped n) inside → element_at s fits d up p ≡ q
+element_complete s fits zero up l n cells inside p q o e f t = elim o [ ]
 element_complete s fits (suc d) up l n cells inside p q (empty o w h) e f t =
     element_spelled s fits d up p q n w _ o h e f (λ a i. ended i)
 element_complete s fits (suc d) up l n cells inside p q (filled {inner = inner} o w h c u i) e f t =

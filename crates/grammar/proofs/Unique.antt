@@ -130,6 +130,7 @@ behind_content {d} {inner} o s a rest q law h =
 -- so every element of any depth does
 element_means : (s : List ℕ) (d : ℕ) → ElementsMean s d
 unfolding inside_at
+element_means s zero l n cells inside p q o e = elim o [ ]
 element_means s (suc d) l n cells inside p q (Element.empty o w h) e =
     let cut = tag_cut s p n w (slash ∷ greater ∷ []) q o h e in
     let ends = slash_ends cut.2 in (

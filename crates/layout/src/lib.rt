@@ -5,9 +5,9 @@
 #![tactic(auto)]
 
 ghost use Rattle.std.specs.Prelude.{◌≡◌, ◌+◌, ◌-◌, ◌*◌, ◌^◌, ◌<◌};
-ghost use Rattle.model.specs.Catalogue.{tables as tables_of, trailer as trailer_of, table_at, columns as columnsOf};
+ghost use Rattle.model.specs.Catalogue.{tables as tables_of, trailer as trailer_of, table_at, columns as columns_of};
 ghost use Rattle.model.specs.Catalogue.{parent as parent_of, rows as rows_of, row_at, table_end};
-ghost use Rattle.model.specs.Catalogue.{visible as visible_of, inherited as inheritedOf, sets as setsOf};
+ghost use Rattle.model.specs.Catalogue.{visible as visible_of, inherited as inherited_of, sets as sets_of};
 ghost use Rattle.model.specs.Check.{Accepted};
 
 use bits::power;
@@ -48,7 +48,7 @@ pub fn table_at(cat: &[u8], table: u32) -> u32
 
 // How many columns a table has.
 pub fn columns(cat: &[u8], table: u32) -> u16
-    ensures { result ≡ columnsOf cat.now table }
+    ensures { result ≡ columns_of cat.now table }
 {
     let at = table_at(cat, table) as usize;
     file::u16_at(cat, at)
@@ -111,7 +111,7 @@ pub fn visible(cat: &[u8], table: u32) -> u32
 
 // How many of them its ancestors have.
 pub fn inherited(cat: &[u8], table: u32) -> u32
-    ensures { result ≡ inheritedOf cat.now table }
+    ensures { result ≡ inherited_of cat.now table }
 {
     let all = visible(cat, table);
     let own = columns(cat, table) as u32;
@@ -124,7 +124,7 @@ pub fn inherited(cat: &[u8], table: u32) -> u32
 // The sets over all targets of an accepted catalogue.
 pub fn sets(cat: &[u8]) -> u32
     requires { Accepted cat.now }
-    ensures { result ≡ setsOf cat.now }
+    ensures { result ≡ sets_of cat.now }
 {
     let n = tables(cat) as u32;
     let mut sum: u32 = 0;

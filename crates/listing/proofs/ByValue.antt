@@ -1,11 +1,11 @@
 -- The run by value of `list_filled`, over plain values: what it is before and after the call of `list`.
-use mathlib.Core.Path.{◌≡◌, sym, ◌∙◌, ap, subst}
+use mathlib.Core.Path.{◌≡◌, sym, ◌∙◌, ap, ap₂, subst}
 use Prim.Native.Nat.{ℕ, zero, suc, ◌+◌, ◌-◌, ◌≤◌, ◌<◌}
 use native.Mathlib.Omega.{arith}
 use native.Mathlib.Nat.{zero-add, suc-add}
 use mathlib.Core.Logic.{◌⊎◌, inl, inr}
 use mathlib.Core.List.{List, ◌∷◌, ◌++◌}
-use lib.ListN.{length, replicate, length-replicate, length-append}
+use lib.ListN.{length, take, drop, replicate, length-replicate}
 use lib.Seq.{take_at, drop_at}
 use Rattle.columns.proofs.Test.{if_lt_yes, if_lt_no}
 use Rattle.model.specs.Entry.{entry}
@@ -44,17 +44,6 @@ run_parts room =
     let e : cap room + (run_bound - cap room) ≡ run_bound = omega (arith, cap_within room) in
     ap (λ (n : ℕ). replicate n zeros) (sym e) ∙ replicate_add (cap room) (run_bound - cap room) zeros
 
-pub run_length : (room : ℕ) (ys : List Entry) → length ys ≡ length (fresh room) → length (ys ++ rest room) ≡ run_bound
-run_length room ys e =
-    omega (
-      arith,
-      length-append ys (rest room),
-      length-replicate (cap room) zeros,
-      length-replicate
-          (run_bound - cap room) zeros,
-      cap_within room,
-    )
-
 pub filled_by : (cat : List ℕ) (place budget room : ℕ) (words : List ℕ) (a : ListAnswer) (ys : List Entry) (ws : List ℕ)
     → length ys ≡ length (fresh room) → ListMeaning cat (seen place budget (fresh room) words (list_reply a) ys ws)
     → FilledBy cat place budget room words a (ys ++ rest room) ws
@@ -66,3 +55,25 @@ filled_by cat place budget room words a ys ws e l =
           (sym (take_at ys (rest room) (cap room) n)) l;
       others = drop_at ys (rest room) (cap room) n;
     }
+
+-- what a slice of the first records of a run of zero entries is, and what stays behind it
+module _ (room k : ℕ) (zs : List Entry) (z : zs ≡ replicate run_bound zeros) (e : k ≡ cap room) where
+  parted : zs ≡ fresh room ++ rest room
+  parted = z ∙ run_parts room
+
+  pub taken : take k zs ≡ fresh room
+  taken = ap₂ take e parted ∙ take_at (fresh room) (rest room) (cap room) (length-replicate (cap room) zeros)
+
+  pub behind : drop k zs ≡ rest room
+  behind = ap₂ drop e parted ∙ drop_at (fresh room) (rest room) (cap room) (length-replicate (cap room) zeros)
+
+  pub taken_length : k ≡ length (take k zs)
+  taken_length = e ∙ sym (ap length taken ∙ length-replicate (cap room) zeros)
+
+  pub filled_from : (cat : List ℕ) (place budget : ℕ) (words : List ℕ) (a : ListAnswer) (ys : List Entry) (ws : List ℕ)
+      → length ys ≡ length (take k zs) → ListMeaning cat (seen place budget (take k zs) words (list_reply a) ys ws)
+      → FilledBy cat place budget room words a (ys ++ drop k zs) ws
+  filled_from cat place budget words a ys ws n m =
+      subst (λ (r : List Entry). FilledBy cat place budget room words a (ys ++ r) ws) (sym behind)
+      (filled_by cat place budget room words a ys ws (n ∙ ap length taken)
+      (subst (λ (r : List Entry). ListMeaning cat (seen place budget r words (list_reply a) ys ws)) taken m))

@@ -3,7 +3,7 @@
 #![tactic(auto)]
 
 ghost use Rattle.std.specs.Prelude.{ℕ, ◌<◌, ◌^◌, ◌≡◌, neg_ℤ, pos, negsuc};
-ghost use Rattle.model.specs.Refusal.{number as Refusal·number};
+ghost use Rattle.model.specs.Refusal.{number as number_of_refusal};
 ghost use Rattle.model.specs.Reply.{list_reply, pack_reply, entries_reply};
 ghost use Rattle.numbers.specs.Number.{number_of, value_or, list_seen};
 
@@ -12,13 +12,13 @@ use refusals::number;
 
 // A refusal's number made negative, at both widths.
 pub fn negative(r: Refusal) -> i32
-    ensures { result ≡ neg_ℤ (pos (Refusal·number r)) }
+    ensures { result ≡ neg_ℤ (pos (number_of_refusal r)) }
 {
     -(number(r) as i32)
 }
 
 pub fn wide_negative(r: Refusal) -> i64
-    ensures { result ≡ neg_ℤ (pos (Refusal·number r)) }
+    ensures { result ≡ neg_ℤ (pos (number_of_refusal r)) }
 {
     negative(r) as i64
 }

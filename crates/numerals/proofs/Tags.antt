@@ -6,7 +6,6 @@ use mathlib.Core.List.{List, [], ◌∷◌, ◌++◌, append_assoc, append-nil}
 use lib.Dec.{eqb}
 use lib.ListN.{drop, get_or}
 use Rattle.columns.specs.Test.{pick}
-use Rattle.model.specs.Bounds.{missing}
 use Rattle.model.specs.Text.{decimal}
 use Rattle.model.specs.Forest.{Cells, Forest, none, tree}
 use Rattle.model.specs.Xml.{White, is_quote, open_row, close, row_letter, catalogue_name, less, slash}

@@ -5,7 +5,7 @@
 #![tactic(auto)]
 
 ghost use Rattle.std.specs.Prelude.{◌≤◌, ◌≡◌, length, replicate};
-ghost use Rattle.model.specs.Refusal.{number as Refusal·number, last_refusal};
+ghost use Rattle.model.specs.Refusal.{number as number_of_refusal, last_refusal};
 ghost use Rattle.model.specs.declared.Refusal.TheVariants.{FileTooShort};
 
 use model::Refusal;
@@ -56,7 +56,7 @@ pub const NO_ROOM: u32 = 22;
 
 // The document's number of a refusal.
 pub fn number(why: Refusal) -> u32
-    ensures { result ≡ Refusal·number why }
+    ensures { result ≡ number_of_refusal why }
 {
     match why {
         Refusal::FileTooShort => FILE_TOO_SHORT,
@@ -86,8 +86,8 @@ pub fn number(why: Refusal) -> u32
 
 // The refusal that has the number, from the first on to the last.
 pub fn refusal(code: u32) -> Refusal
-    requires { (Refusal·number FileTooShort ≤ code) × (code ≤ last_refusal) }
-    ensures { Refusal·number result ≡ code }
+    requires { (number_of_refusal FileTooShort ≤ code) × (code ≤ last_refusal) }
+    ensures { number_of_refusal result ≡ code }
 {
     match code {
         BAD_TRAILER => Refusal::BadTrailer,

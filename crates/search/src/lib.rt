@@ -9,8 +9,8 @@ ghost use Rattle.columns.specs.Bound.{column_bound};
 ghost use Rattle.model.specs.Bounds.{row, row_bound};
 ghost use Rattle.model.specs.Pair.{first_pair};
 ghost use Rattle.leaders.specs.Keys.{key_view};
-ghost use Rattle.search.specs.Strays.{LowerLeaders, strays as straysOf, MarkedMore, MarkedBelow, FirstStray};
-ghost use Rattle.search.specs.Strays.{rows_found, follows as followsOf, row_after};
+ghost use Rattle.search.specs.Strays.{LowerLeaders, strays as strays_of, MarkedMore, MarkedBelow, FirstStray};
+ghost use Rattle.search.specs.Strays.{rows_found, follows as follows_of, row_after};
 
 use leaders::{ROWS, SIZE};
 use model::ROW;
@@ -26,7 +26,7 @@ pub enum Found {
 // Does row q not agree on the right side with its leader?
 fn strays(keys: &[u16; SIZE], leaders: &[u16; ROWS], right: u32, q: usize) -> bool
     requires { (q < row_bound) × (get_or leaders.now q 0 < row_bound) × ((right ≡ row → ⊥) → right < column_bound) }
-    ensures { result ≡ straysOf keys.now leaders.now right q }
+    ensures { result ≡ strays_of keys.now leaders.now right q }
 {
     let p = leaders[q] as usize;
     if right == ROW {
@@ -90,7 +90,7 @@ fn row_after(marks: &[u8; ROWS], p: usize, end: usize) -> usize
 // Is p the leader of row q, from which it strays?
 fn follows(keys: &[u16; SIZE], leaders: &[u16; ROWS], right: u32, p: usize, q: usize) -> bool
     requires { (q < row_bound) × (get_or leaders.now q 0 < row_bound) × ((right ≡ row → ⊥) → right < column_bound) }
-    ensures { result ≡ followsOf keys.now leaders.now right p q }
+    ensures { result ≡ follows_of keys.now leaders.now right p q }
 {
     if leaders[q] as usize != p {
         return false;

@@ -7,7 +7,7 @@ ghost use Rattle.std.specs.Prelude.{◌+◌, ◌*◌, ◌≤◌, ◌<◌, ◌^�
 ghost use Rattle.std.proofs.lemmas.List.Edits.{sets};
 ghost use Rattle.columns.specs.Bound.{column_bound};
 ghost use Rattle.model.specs.Bounds.{table_bound, row_bound, missing};
-ghost use Rattle.model.specs.Catalogue.{tables as tables_of, columns as columnsOf};
+ghost use Rattle.model.specs.Catalogue.{tables as tables_of, columns as columns_of};
 ghost use Rattle.model.specs.Check.{Accepted};
 ghost use Rattle.model.specs.Encode.{codes_of, head_of, row_of, trailer_of, rows_bytes, table_bytes, tables_bytes};
 ghost use Rattle.model.specs.Forest.{codes_from};
@@ -127,7 +127,7 @@ fn put_head(out: &mut [u8], at: usize, columns: usize, parent: usize, rows: usiz
 
 // Writes a table of the shape with its rows, of which there are `count`: the position behind it.
 fn put_table(out: &mut [u8], at: usize, shape: &[u8], s: &[u8], table: u32, count: usize) -> usize
-    requires { (table < table_bound) × (columnsOf shape.now table ≤ column_bound)
+    requires { (table < table_bound) × (columns_of shape.now table ≤ column_bound)
         × (count ≡ count_of table (tags_in s.now))
         × (at + length (table_bytes (table_from shape.now (tags_in s.now) table)) ≤ length out.old) }
     ensures { Put out.old at

@@ -243,4 +243,4 @@ attributes_complete {s} {p} {q} (one_more {a} {l} one more) h e z =
     let low = attribute_grows one c.0 in
     many_more s (is_attribute s) (attribute_at s) (attribute_goes_on s) (attribute_begins one c.0)
     (attribute_complete one c.0) (omega arith)
-    ∙ attributes_complete more c.1 e z
+    ∙ attributes_complete {p = p + length a} more c.1 e z

@@ -64,7 +64,7 @@ module _ (test : ℕ → Bool) (P : List ℕ → Type 0) where
       → Stands s p w q → P w → (i : ℕ) → p ≤ i → i < q → T (test (byte_at s i))
   stands_passing split [] h all i a b = absurd (omega arith)
   stands_passing split {s} {p} (x ∷ w) {q} h all i a b =
-      at (ℕ_discrete i p) (stands_passing split w (stands_rest h) (split x w all).1)
+      at (ℕ_discrete i p) (stands_passing split {p = p + 1} w (stands_rest h) (split x w all).1)
     where
       at : Dec (i ≡ p) → ((j : ℕ) → p + 1 ≤ j → j < q → T (test (byte_at s j))) → T (test (byte_at s i))
       at (yes e) f = subst (λ (y : ℕ). T (test y)) (sym (ap (byte_at s) e ∙ stands_byte h)) (split x w all).0

@@ -77,14 +77,14 @@ word_sound {s} {x} {w = []} {p} e n =
     expect_sound r.1 n
 word_sound {s} {x} {w = y ∷ w} {p} e n =
     let r = next_read (expect s x p) (word_at s (y ∷ w)) e n in
-    stands_join (expect_sound refl r.0) (word_sound {w = w} r.1 n)
+    stands_join (expect_sound refl r.0) (word_sound {x = y} {w = w} r.1 n)
 
 pub word_complete : {s : List ℕ} {x : ℕ} {w : List ℕ} {p q : ℕ} → Stands s p (x ∷ w) q → word_at s (x ∷ w) p ≡ q
 unfolding word_at
 word_complete {s} {x} {w = []} {p} {q} h = next_is (word_at s []) (expect_complete h) (omega arith) refl
 word_complete {s} {x} {w = y ∷ w} {p} {q} h =
     let c = stands_cut s p (x ∷ []) (y ∷ w) q h in
-    next_is (word_at s (y ∷ w)) (expect_complete c.0) (omega arith) (word_complete {w = w} c.1)
+    next_is (word_at s (y ∷ w)) (expect_complete c.0) (omega arith) (word_complete {x = y} {w = w} c.1)
 
 -- digits
 digits_sound : (s : List ℕ) (p : ℕ) → p < digits_end s p → (w : List ℕ) × Digits w × Stands s p w (digits_end s p)

@@ -3,7 +3,7 @@ ghost use Rattle.std.specs.Prelude.{ℕ, ◌^◌, ◌≤◌, ◌<◌, List, ◌�
 ghost use Rattle.columns.specs.Bound.{column_bound};
 ghost use Rattle.columns.specs.Order.{in_order};
 ghost use Rattle.model.specs.Bounds.{work_bound};
-ghost use Rattle.model.specs.Catalogue.{sets as setsOf};
+ghost use Rattle.model.specs.Catalogue.{sets as sets_of};
 ghost use Rattle.model.specs.Check.{Accepted};
 ghost use Rattle.model.specs.Listing.{ordinary};
 ghost use Rattle.walk.specs.Places.{Found};
@@ -23,7 +23,7 @@ pub struct Spot {
 // The target of a place, and the index of the set that stands there: whole targets are passed.
 fn find(cat: &[u8], place: u32) -> Spot
     requires accepted { Accepted cat.now }
-    requires place_bound { place < setsOf cat.now }
+    requires place_bound { place < sets_of cat.now }
     ensures { Found (ordinary cat.now) place result.target result.index }
 {
     let mut target: u32 = 0;
@@ -56,7 +56,7 @@ fn set_at(n: u32, index: u32) -> u32
 // The walk at the set that stands at a place. What it says of the work words and of rights means nothing yet.
 pub fn first(cat: &[u8], place: u32, budget: u32, room: usize) -> Walk
     requires accepted { Accepted cat.now }
-    requires place_bound { place < setsOf cat.now }
+    requires place_bound { place < sets_of cat.now }
     requires budget_nonzero { 0 < budget }
     ensures { (words : List ℕ) → work_bound ≤ length words
         → First (ordinary cat.now) place budget room result words }

@@ -1,8 +1,6 @@
 -- The answers of `convert::many_code`.
-use Prim.Native.Nat.{◌-◌}
 use native.Mathlib.Omega.{arith}
 use borrow.Author.Rules.{rules}
-use Rattle.model.specs.Catalogue.{tables}
 use Rattle.model.specs.Convert.{tags_in}
 use Rattle.model.proofs.Check.{accepted_tables}
 use Rattle.grounds.proofs.First.{none_below_zero, none_below_more, first_found, none_found}

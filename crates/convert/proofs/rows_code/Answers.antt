@@ -1,5 +1,4 @@
 -- The answers of `convert::rows_code`.
-use Prim.Native.Nat.{◌-◌}
 use native.Mathlib.Omega.{arith}
 use borrow.Author.Rules.{rules}
 use Rattle.grounds.proofs.First.{none_below_zero, none_below_more, first_found, none_found}

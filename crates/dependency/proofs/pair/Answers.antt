@@ -39,7 +39,7 @@ returns-in-Pair c =
     let z = c.if-code-ne0.false in
     let reply =
     pair_told a.cat.now a.target a.left a.right (length a.work.now) e z
-    (sym (ap rows_found c.first-1.given.1) ∙ c.breaking_pair.ensures) in
+    (sym (ap rows_found c.in-Pair.is) ∙ c.breaking_pair.ensures) in
     let words =
     words_zeroed a.cat.now a.target a.left a.right a.work.now e z
     c.zero_words.ensures in
@@ -55,7 +55,7 @@ returns-in-Nothing c =
     let z = c.if-code-ne0.false in
     let reply =
     pair_told a.cat.now a.target a.left a.right (length a.work.now) e z
-    (sym (ap rows_found c.enum_told-1.given.1) ∙ c.breaking_pair.ensures) in
+    (sym (ap rows_found c.in-Nothing.is) ∙ c.breaking_pair.ensures) in
     let words =
     words_zeroed a.cat.now a.target a.left a.right a.work.now e z
     c.zero_words.ensures in

@@ -1,5 +1,4 @@
 -- `elements::end_at` meets its contract.
-use borrow.Author.Rules.{rules}
 use Rattle.model.specs.Xml.{greater}
 use Rattle.model.specs.Form.{expect, end_at}
 use Rattle.scanner.proofs.Read.{none_read, some_read, read_at}

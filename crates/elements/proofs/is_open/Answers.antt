@@ -15,16 +15,16 @@ pub returns-then-byte_at-ne60 : goal.returns-then-byte_at-ne60
 unfolding is_open
 returns-then-byte_at-ne60 c =
     let a = c.args in
-    simp (ne_eqb (byte_at a.s.now a.p) less (λ z. c.if-byte_at-ne60.true (c.before.byte_at_lem.ensures ∙ z)))
+    simp (ne_eqb (byte_at a.s.now a.p) less (λ z. c.if-byte_at-ne60.true (c.byte_at.ensures ∙ z)))
 
 pub overflow_add-p : goal.overflow_add-p
 overflow_add-p c =
     let a = c.args in
-    omega (arith, byte_inside a.s.now a.p (λ z. omega (arith, c.before.byte_at_lem.ensures ∙ z)))
+    omega (arith, byte_inside a.s.now a.p (λ z. omega (arith, c.byte_at.ensures ∙ z)))
 
 pub returns : goal.returns
 unfolding is_open
 returns c =
     let a = c.args in
-    simp (eq-eqb (byte_at a.s.now a.p) less (sym c.before.before.byte_at_lem.ensures ∙ c.if-byte_at-ne60.false))
+    simp (eq-eqb (byte_at a.s.now a.p) less (sym c.byte_at.ensures ∙ c.if-byte_at-ne60.false))
     (ap (λ (x : ℕ). not (eqb x slash)) c.byte_at-2.ensures)

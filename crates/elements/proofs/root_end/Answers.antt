@@ -1,7 +1,6 @@
 -- `elements::root_end` meets its contract.
 use mathlib.Core.Path.{◌∙◌}
 use native.Mathlib.Omega.{arith}
-use borrow.Author.Rules.{rules}
 use Rattle.scanner.proofs.Progress.{byte_inside}
 use Rattle.elements.proofs.Rest.{rest_empty, rest_none, rest_bad, rest_filled}
 use Rattle.elements.proofs.root_end.Goals as goal
@@ -9,26 +8,26 @@ use Rattle.elements.proofs.root_end.Goals as goal
 pub overflow_add-p : goal.overflow_add-p
 overflow_add-p c =
     let a = c.args in
-    omega (arith, byte_inside a.s.now a.p (λ z. omega (arith, c.before.byte_at_lem.ensures ∙ z)))
+    omega (arith, byte_inside a.s.now a.p (λ z. omega (arith, c.byte_at.ensures ∙ z)))
 
 pub returns-then-byte_at-eq47 : goal.returns-then-byte_at-eq47
 returns-then-byte_at-eq47 c =
-    rest_empty _ _ _ _ c.before.before.byte_at_lem.ensures c.if-byte_at-eq47.true c.expect.ensures
+    rest_empty _ _ _ _ c.byte_at.ensures c.if-byte_at-eq47.true c.expect.ensures
 
 pub returns-then-inside-eq0 : goal.returns-then-inside-eq0
 returns-then-inside-eq0 c =
-    rest_none _ _ _ _ c.before.before.before.byte_at_lem.ensures c.if-byte_at-eq47.false
+    rest_none _ _ _ _ c.byte_at.ensures c.if-byte_at-eq47.false
     c.expect-inside.ensures c.if-inside-eq0.true
 
 pub returns-then-last-eq0 : goal.returns-then-last-eq0
 returns-then-last-eq0 c =
     let d = c in
-    rest_bad _ _ _ _ d.before.before.before.byte_at_lem.ensures d.if-byte_at-eq47.false
+    rest_bad _ _ _ _ d.byte_at.ensures d.if-byte_at-eq47.false
     d.expect-inside.ensures d.if-inside-eq0.false c.content-last.ensures c.if-last-eq0.true
 
 pub returns : goal.returns
 returns c =
     let d = c in
-    rest_filled _ _ _ _ d.before.before.before.byte_at_lem.ensures d.if-byte_at-eq47.false
+    rest_filled _ _ _ _ d.byte_at.ensures d.if-byte_at-eq47.false
     d.expect-inside.ensures d.if-inside-eq0.false c.content-last.ensures
-    c.if-last-eq0.false c.end_at_lem.ensures
+    c.if-last-eq0.false c.end_at.ensures

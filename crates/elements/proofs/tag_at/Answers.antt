@@ -1,5 +1,4 @@
 -- `elements::tag_at` meets its contract.
-use borrow.Author.Rules.{rules}
 use Rattle.model.specs.Form.{tag_at}
 use Rattle.scanner.proofs.Read.{none_read, some_read, none_picked, some_picked}
 use Rattle.elements.proofs.tag_at.Goals as goal

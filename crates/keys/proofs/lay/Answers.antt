@@ -19,6 +19,9 @@ use Rattle.keys.proofs.lay.Tie as tie
 use Rattle.keys.proofs.lay.Reads as reads
 use Rattle.keys.proofs.lay.Goals as goal
 
+abbrev After-code_at-o : Type 0
+After-code_at-o = lts.After-code_at tie.the-claims reads.Pre reads.Post goal.the-invariant-loop-reached goal.the-decreases-loop-reached tie.handed_clauses
+
 abbrev At-loop-reached : Type 0
 At-loop-reached = lts.At-loop tie.the-claims reads.Pre reads.Post goal.the-invariant-loop-reached goal.the-decreases-loop-reached tie.handed_clauses
 
@@ -72,14 +75,14 @@ entry c =
       entry_within (bytes c) (ok c) c.loop-reached.at c.loop-reached.invariant.table,
     )
 
-table : (c : tie.After-code-at invariant-loop decreases-loop) → c.code_at-o.result ≡ table_at (bytes c.before) c.loop-reached.at
+table : (c : After-code_at-o) → c.code_at-o.result ≡ table_at (bytes c.before) c.loop-reached.at
 unfolding table_at
 table c =
     let l = c.before in
     c.code_at-o.ensures ∙ ap (λ (x : ℕ). u32_at (bytes l) (x + 4 * l.loop-reached.at))
     l.trailer-first.ensures
 
-head : (c : tie.After-code-at invariant-loop decreases-loop) → c.code_at-o.result + 6 ≤ length (bytes c.before)
+head : (c : After-code_at-o) → c.code_at-o.result + 6 ≤ length (bytes c.before)
 head c =
     omega (
       arith,
@@ -184,7 +187,7 @@ some : (c : Else-set-power-eq0)
     l.args.set % 2 ^ (l.loop-reached.above - i.index-c.result) ≡ 0
     → ⊥
 some c e =
-    let i = c in
+    let i = c.before.before.before.before.before in
     let l = i in
     c.if-set-power-eq0.false (ap (λ (x : ℕ). l.args.set % x)
     c.power.ensures ∙ e)

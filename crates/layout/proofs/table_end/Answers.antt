@@ -6,6 +6,6 @@ use Rattle.layout.proofs.table_end.Goals as goal
 pub returns : goal.returns
 unfolding table_end
 returns c = record {
-      is = cc;
-      small = search rules;
-    }
+  is = cc;
+  small = search rules;
+}

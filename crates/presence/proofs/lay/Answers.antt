@@ -42,14 +42,14 @@ pub offset_bounds-sets-q : goal.offset_bounds-sets-q
 offset_bounds-sets-q c = omega (arith, short c.before.before.before)
 
 pub bounds-sets-q : goal.bounds-sets-q
-bounds-sets-q c = omega (arith, short c.before.before.before)
+bounds-sets-q c = omega (arith, short c.before.before.before.before)
 
 pub loop-q-smaller : goal.loop-q-smaller
 loop-q-smaller c = omega arith
 
 pub loop-q-preserved : goal.loop-q-preserved
 loop-q-preserved c =
-    let l = c.before.before.before in (
+    let l = c.before.before.before.before in (
       filled_more l.loop-q.invariant.0 refl (omega arith) (omega (arith, short l)) c.present_set.ensures,
       omega arith,
     )

@@ -16,6 +16,9 @@ use Rattle.presence.proofs.present_set.Tie as tie
 use Rattle.presence.proofs.present_set.Reads as reads
 use Rattle.presence.proofs.present_set.Goals as goal
 
+abbrev After-code_at-o : Type 0
+After-code_at-o = lts.After-code_at tie.the-claims reads.Pre reads.Post goal.the-invariant-loop-above goal.the-decreases-loop-above tie.handed_clauses
+
 abbrev At-loop-above : Type 0
 At-loop-above = lts.At-loop tie.the-claims reads.Pre reads.Post goal.the-invariant-loop-above goal.the-decreases-loop-above tie.handed_clauses
 
@@ -50,13 +53,13 @@ entry c =
       entry_within (bytes c) (ok c) c.loop-above.at c.loop-above.invariant.table,
     )
 
-table : (c : tie.After-code-at invariant-loop decreases-loop) → c.code_at-o.result ≡ table_at (bytes c.before) c.loop-above.at
+table : (c : After-code_at-o) → c.code_at-o.result ≡ table_at (bytes c.before) c.loop-above.at
 unfolding table_at
 table c =
     let l = c.before in
     c.code_at-o.ensures ∙ ap (λ (x : ℕ). u32_at (bytes l) (x + 4 * l.loop-above.at)) l.trailer-first.ensures
 
-head : (c : tie.After-code-at invariant-loop decreases-loop) → c.code_at-o.result + 6 ≤ length (bytes c.before)
+head : (c : After-code_at-o) → c.code_at-o.result + 6 ≤ length (bytes c.before)
 head c =
     let l = c.before in
     omega (arith, table c, head_within (bytes l) (ok l) l.loop-above.at l.loop-above.invariant.table)
@@ -124,7 +127,7 @@ returns-then-above-eq0 c =
     let i = c.before.before.before in
     let l = i.before.before.before in
     climbing_done (bytes l) (ok l) (of l) (exists l) l.loop-above.invariant (table i.before.before) (own i)
-    c.before.join_Cells.ensures
+    c.before.join_cells-set.ensures
     c.if-above-eq0.true
 
 pub short_at-requires-in-loop-above : goal.short_at-requires-in-loop-above
@@ -135,20 +138,20 @@ short_at-requires-in-loop-above-2 c = omega (arith, head c.before.before.before.
 
 pub loop-above-smaller : goal.loop-above-smaller
 loop-above-smaller c =
-    let e = c in
+    let e = c.before.before.before.before.before in
     let i = e.before.before in
     let l = i.before.before.before in
     parent_lower (bytes l) (ok l) (of l) (exists l) l.loop-above.invariant (table i.before.before) (own i)
-    e.before.join_Cells.ensures _
+    e.before.join_cells-set.ensures _
     (c.index-at.ensures ∙ c.short_at-in-loop-above-2.ensures)
     e.if-above-eq0.false
 
 pub loop-above-preserved : goal.loop-above-preserved
 loop-above-preserved c =
-    let e = c in
+    let e = c.before.before.before.before.before in
     let i = e.before.before in
     let l = i.before.before.before in
     climbing_next (bytes l) (ok l) (of l) (exists l) l.loop-above.invariant (table i.before.before) (own i)
-    e.before.join_Cells.ensures _ _ e.if-above-eq0.false
+    e.before.join_cells-set.ensures _ _ e.if-above-eq0.false
     (c.index-at.ensures ∙ c.short_at-in-loop-above-2.ensures)
     (c.index-row.ensures ∙ c.short_at-in-loop-above.ensures)

@@ -53,5 +53,5 @@ returns c =
     let p = s.requires.n_value in
     let v = view s.args.cat.now s.args.target in
     let b = c.backed_plane in
-    backed_put v _ _ b.new.1.1.1.1.0 _ _ p.1 (sym p.0)
+    backed_put v _ _ b.new.plane _ _ p.1 (sym p.0)
     c.power-m.ensures c.put_behind.ensures b.ensures

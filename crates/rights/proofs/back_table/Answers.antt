@@ -51,8 +51,8 @@ returns c =
     c.before.before.before.before.before.before.before.before.before.before.before.before.before.before.before in
     let n = c in
     let v = view s.args.cat.now s.args.target in
-    holds_table v _ _ _ _ _ _ (view_equivalence s.args.cat.now s.args.target) (few s) s.pre.1.1.2
-    s.pre.1.1.3
+    holds_table v _ _ _ _ _ _ (view_equivalence s.args.cat.now s.args.target) (few s) s.requires.n_value.2
+    s.requires.n_value.3
     (sets_rows s.args.cat.now s.args.target n.rows-end.ensures
     n.lay.ensures) n.note.ensures c.close.ensures
-    (omega (arith, s.pre.1.1.1))
+    (omega (arith, s.requires.n_value.1))

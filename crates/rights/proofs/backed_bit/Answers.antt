@@ -16,7 +16,7 @@ use Rattle.rights.proofs.backed_bit.Goals as goal
 pub bounds-work-left : goal.bounds-work-left
 bounds-work-left c =
     let s = c in
-    let h = subst (λ (held : Held). Readable held s.args.n s.args.work.now) c.enum_told-1.given.1
+    let h = subst (λ (held : Held). Readable held s.args.n s.args.work.now) c.in-Table.is
     s.requires.2 in
     omega (arith, s.requires.1)
 
@@ -28,7 +28,7 @@ overflow_add-power c =
 pub bit_at-requires : goal.bit_at-requires
 bit_at-requires c =
     let s = c in
-    let h = subst (λ (held : Held). Readable held s.args.n s.args.work.now) c.enum_told-in-Seeds-1.given.1
+    let h = subst (λ (held : Held). Readable held s.args.n s.args.work.now) c.in-Seeds.is
     s.requires.2 in
     let l = h.1.one in
     omega (arith, c.power.ensures, s.requires.1, power_words s.args.n h.0, two_planes s.args.n h.0)
@@ -39,7 +39,7 @@ returns-in-Table c =
     let words = s.args.work.now in
     subst (λ (held : Held). BackedBy s.args.n s.args.left held words
     (bit (word words s.args.left) (s.args.n + 1)))
-    (sym c.enum_told-1.given.1)
+    (sym c.in-Table.is)
     (table_backed s.args.n s.args.left words s.requires.1)
 
 pub returns-in-Seeds : goal.returns-in-Seeds
@@ -47,6 +47,6 @@ returns-in-Seeds c =
     let s = c in
     let words = s.args.work.now in
     subst (λ (held : Held). BackedBy s.args.n s.args.left held words c.bit_at.result)
-    (sym c.enum_told-in-Seeds-1.given.1)
+    (sym c.in-Seeds.is)
     (seeds_backed s.args.n s.args.left _ words s.requires.1
     (c.bit_at.ensures ∙ ap (λ (p : ℕ). plane_bit words (p + s.args.left)) c.power.ensures))

@@ -6,7 +6,13 @@ use Rattle.model.specs.Target.{view}
 use Rattle.model.proofs.Check.{accepted_visible, accepted_rows}
 use Rattle.rights.proofs.Kept.{kept_none, kept_backed, kept_no}
 use Rattle.rights.proofs.Held.{sets_rows}
+use Rattle.rights.proofs.filter_alone.Lts as lts
+use Rattle.rights.proofs.filter_alone.Tie as tie
+use Rattle.rights.proofs.filter_alone.Reads as reads
 use Rattle.rights.proofs.filter_alone.Goals as goal
+
+abbrev After-is_backed : Type 0
+After-is_backed = lts.After-is_backed tie.the-claims reads.Pre reads.Post tie.handed_clauses
 
 pub returns-then-minimal-eq0 : goal.returns-then-minimal-eq0
 returns-then-minimal-eq0 c = kept_none _ _ _ c.if-minimal-eq0.true
@@ -21,7 +27,7 @@ is_backed-requires c =
     )
 
 -- what was found of the sets laid is what is backed
-found : (c : tie.After-is-backed)
+found : (c : After-is_backed)
     → let s = c.before.before.before.before.before.before.before in
     c.is_backed.result ≡ backed (view s.args.cat.now s.args.target) s.args.left
 found c =

@@ -1,18 +1,9 @@
 -- The answers of `scanner::attributes_end`.
-use Prim.Native.Nat.{◌-◌}
-use mathlib.Core.Path.{◌≡◌, refl, sym, ◌∙◌}
+use mathlib.Core.Path.{refl, sym, ◌∙◌}
 use native.Mathlib.Omega.{arith}
-use mathlib.Core.Bool.{true}
-use Rattle.model.specs.Form.{many, attribute_at, is_attribute}
 use Rattle.readers.proofs.Many.{many_done, many_more, many_fails}
 use Rattle.scanner.proofs.Progress.{attributes_go}
 use Rattle.scanner.proofs.attributes_end.Goals as goal
-
--- there was an attribute
-there : (c : tie.After-attribute-at invariant-loop decreases-loop)
-    → let s = c.args.s.now in
-    is_attribute s c.loop-q.q ≡ true
-there c = sym c.is_attribute.ensures ∙ c.loop-q-test.true
 
 pub loop-q-init : goal.loop-q-init
 loop-q-init c = refl
@@ -20,7 +11,7 @@ loop-q-init c = refl
 pub returns-then-q-eq0 : goal.returns-then-q-eq0
 returns-then-q-eq0 c =
     let s = c.args.s.now in
-    sym (many_fails s _ _ (attributes_go s) (there c.before.before)
+    sym (many_fails s _ _ (attributes_go s) (sym c.is_attribute.ensures ∙ c.loop-q-test.true)
     (sym c.attribute_at-q.ensures ∙ c.if-q-eq0.true))
     ∙ c.loop-q.invariant
 
@@ -31,14 +22,14 @@ loop-q-smaller c =
     let g = attributes_go s in
     omega (
       arith,
-      g.inside q (there c.before.before),
-      g.onward q _ (there c.before.before) (sym c.attribute_at-q.ensures) c.if-q-eq0.false,
+      g.inside q (sym c.is_attribute.ensures ∙ c.loop-q-test.true),
+      g.onward q _ (sym c.is_attribute.ensures ∙ c.loop-q-test.true) (sym c.attribute_at-q.ensures) c.if-q-eq0.false,
     )
 
 pub loop-q-preserved : goal.loop-q-preserved
 loop-q-preserved c =
     let s = c.args.s.now in
-    sym (many_more s _ _ (attributes_go s) (there c.before.before) (sym c.attribute_at-q.ensures) c.if-q-eq0.false)
+    sym (many_more s _ _ (attributes_go s) (sym c.is_attribute.ensures ∙ c.loop-q-test.true) (sym c.attribute_at-q.ensures) c.if-q-eq0.false)
     ∙ c.loop-q.invariant
 
 pub returns : goal.returns

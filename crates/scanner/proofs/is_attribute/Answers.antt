@@ -19,4 +19,4 @@ returns c =
     let a = c.args in
     let e = c.skip-q.ensures in
     simp (ne_eqb (skip a.s.now a.p) a.p (λ z. c.if-q-p.false (e ∙ z)))
-    (ap (λ (x : ℕ). eqb x 99) (c.byte_at_lem.ensures ∙ ap (byte_at a.s.now) e))
+    (ap (λ (x : ℕ). eqb x 99) (c.byte_at.ensures ∙ ap (byte_at a.s.now) e))

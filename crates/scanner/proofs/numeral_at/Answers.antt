@@ -15,7 +15,7 @@ unfolding numeral_at
 returns-then-byte_at-ne48 c =
     let e = c.digits_end-end.ensures in
     is_if_ne _ (λ z. c.if-end-p.false (e ∙ z))
-    (is_if_ne _ (λ z. c.if-byte_at-ne48.true (c.before.byte_at_lem.ensures ∙ z)) e)
+    (is_if_ne _ (λ z. c.if-byte_at-ne48.true (c.byte_at.ensures ∙ z)) e)
 
 pub overflow_add-p : goal.overflow_add-p
 overflow_add-p c =
@@ -28,7 +28,7 @@ unfolding numeral_at
 returns-then-end-p-2 c =
     let e = c.digits_end-end.ensures in
     is_if_ne _ (λ z. c.if-end-p.false (e ∙ z))
-    (is_if_eq _ (sym c.before.before.byte_at_lem.ensures ∙ c.if-byte_at-ne48.false)
+    (is_if_eq _ (sym c.byte_at.ensures ∙ c.if-byte_at-ne48.false)
     (is_if_ne _ (λ z. c.if-end-p-2.true (e ∙ z)) refl))
 
 pub returns : goal.returns
@@ -36,5 +36,5 @@ unfolding numeral_at
 returns c =
     let e = c.digits_end-end.ensures in
     is_if_ne _ (λ z. c.if-end-p.false (e ∙ z))
-    (is_if_eq _ (sym c.before.before.byte_at_lem.ensures ∙ c.if-byte_at-ne48.false)
+    (is_if_eq _ (sym c.byte_at.ensures ∙ c.if-byte_at-ne48.false)
     (is_if_eq _ (sym e ∙ c.if-end-p-2.false) c.if-end-p-2.false))

@@ -10,56 +10,46 @@ use Rattle.model.specs.Form.{expect, quoted_at}
 use Rattle.attributes.proofs.Digits.{capped_is, capped_least}
 use Rattle.scanner.proofs.Read.{none_read, some_read, read_at, none_picked, some_picked}
 use Rattle.scanner.proofs.Progress.{quote_inside}
-use Rattle.scanner.proofs.quoted_at.Lts as lts
-use Rattle.scanner.proofs.quoted_at.Tie as tie
-use Rattle.scanner.proofs.quoted_at.Reads as reads
 use Rattle.scanner.proofs.quoted_at.Goals as goal
-
-abbrev Else-not-is_quote : Type 0
-Else-not-is_quote = lts.Else1 tie.the-claims reads.Pre reads.Post
+use Rattle.scanner.proofs.quoted_at.Goals.{After-is_quote, Else-not-is_quote}
 
 -- whether the byte at p is a quote; if so it stands in the text
-quoted : (c : tie.After-is-quote) → let a = c.args in
-    c.is_quote.result ≡ is_quote (byte_at a.s.now a.p)
-quoted c = c.is_quote.ensures ∙ ap is_quote c.before.byte_at_lem.ensures
+quoted : (c : After-is_quote) → let a = c.args in c.is_quote.result ≡ is_quote (byte_at a.s.now a.p)
+quoted c = c.is_quote.ensures ∙ ap is_quote c.byte_at-quote.ensures
 
 within : (c : Else-not-is_quote) → let a = c.args in a.p < length a.s.now
 within c =
     let a = c.args in
-    quote_inside a.s.now a.p (sym (quoted c.before) ∙ c.if-not-is_quote.false)
+    quote_inside a.s.now a.p (sym (c.is_quote.ensures ∙ ap is_quote c.byte_at-quote.ensures) ∙ c.if-not-is_quote.false)
 
 pub returns-then-not-is_quote : goal.returns-then-not-is_quote
 unfolding quoted_at
-returns-then-not-is_quote c = none_picked _ (quoted c.before.before) c.if-not-is_quote.true
+returns-then-not-is_quote c =
+    none_picked _ (quoted (goal.at.returns-then-not-is_quote c).After-is_quote) c.if-not-is_quote.true
 
 pub overflow_add-p : goal.overflow_add-p
-overflow_add-p c = omega (arith, within c.before)
+overflow_add-p c = omega (arith, within (goal.at.overflow_add-p c).Else-not-is_quote)
 
 pub returns-then-end-eq0 : goal.returns-then-end-eq0
 unfolding quoted_at
 returns-then-end-eq0 c =
-    let d = c in
-    some_picked (quoted d.before) d.if-not-is_quote.false
+    some_picked (quoted (goal.at.returns-then-end-eq0 c).After-is_quote) c.if-not-is_quote.false
     (none_read _ c.numeral_at-end.ensures c.if-end-eq0.true)
 
 pub overflow_add-p-2 : goal.overflow_add-p-2
-overflow_add-p-2 c = omega (arith, within c.before.before.before)
+overflow_add-p-2 c = omega (arith, within (goal.at.overflow_add-p-2 c).Else-not-is_quote)
 
 pub returns-then-number_at-ge-MISSING : goal.returns-then-number_at-ge-MISSING
 unfolding quoted_at
 returns-then-number_at-ge-MISSING c =
-    let d = c in
-    some_picked (quoted d.before) d.if-not-is_quote.false
+    some_picked (quoted (goal.at.returns-then-number_at-ge-MISSING c).After-is_quote) c.if-not-is_quote.false
     (some_read _ c.numeral_at-end.ensures c.if-end-eq0.false
     (is_if_not_lt _ (capped_least c.number_at.ensures (omega arith) c.if-number_at-ge-MISSING.true) refl))
 
 pub returns : goal.returns
 unfolding quoted_at
 returns c =
-    let d = c in
-    let e = c in
-    some_picked (quoted d.before) d.if-not-is_quote.false
-    (some_read _ e.numeral_at-end.ensures c.if-end-eq0.false
+    some_picked (quoted (goal.at.returns c).After-is_quote) c.if-not-is_quote.false
+    (some_read _ c.numeral_at-end.ensures c.if-end-eq0.false
     (is_if_lt _ (omega (arith, capped_is c.number_at.ensures c.if-number_at-ge-MISSING.false))
-    (read_at (λ x. expect d.args.s.now x e.numeral_at-end.result)
-    c.expect.ensures d.before.before.byte_at_lem.ensures)))
+    (read_at (λ x. expect c.args.s.now x c.numeral_at-end.result) c.expect.ensures c.byte_at-quote.ensures)))

@@ -1,5 +1,4 @@
 -- The answers of `scanner::skip`.
-use Prim.Native.Nat.{◌-◌}
 use mathlib.Core.Path.{refl, sym, ap, ◌∙◌}
 use mathlib.Core.Bool.{not}
 use Rattle.model.specs.Form.{skip}

@@ -1,5 +1,4 @@
 -- The answers of `scanner::word_at`.
-use Prim.Native.Nat.{◌-◌}
 use mathlib.Core.Path.{refl, sym, ◌∙◌}
 use Rattle.scanner.proofs.Word.{word_past, word_none, word_more}
 use Rattle.scanner.proofs.word_at.Goals as goal

@@ -1,5 +1,4 @@
 -- The answers of `sheets::put_codes`.
-use Prim.Native.Nat.{◌-◌}
 use native.Mathlib.Omega.{arith}
 use Rattle.sheets.proofs.Rows.{coding_begun, coding_room, coding_more, coding_done}
 use Rattle.sheets.proofs.put_codes.Goals as goal

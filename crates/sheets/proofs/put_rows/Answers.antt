@@ -1,5 +1,4 @@
 -- The answers of `sheets::put_rows`.
-use Prim.Native.Nat.{◌-◌}
 use native.Mathlib.Omega.{arith}
 use Rattle.sheets.proofs.Rows.{rowing_begun, rowing_room, rowing_more, rowing_done}
 use Rattle.sheets.proofs.put_rows.Goals as goal

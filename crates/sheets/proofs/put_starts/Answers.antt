@@ -1,5 +1,4 @@
 -- The answers of `sheets::put_starts`.
-use Prim.Native.Nat.{◌-◌}
 use native.Mathlib.Omega.{arith}
 use Rattle.model.proofs.Check.{accepted_tables}
 use Rattle.sheets.proofs.Tables.{starting_begun, starting_room, starting_more, starting_done}
@@ -20,7 +19,7 @@ size_of-start-requires c =
 pub loop-table-preserved : goal.loop-table-preserved
 loop-table-preserved c =
     starting_more _ _ _ _ c.loop-table.invariant (omega arith)
-    c.put_u32.ensures c.type_size.ensures.0 c.type_size.ensures.1
+    c.put_u32.ensures c.size_of-start.ensures.is c.size_of-start.ensures.small
 
 pub shape_of-out : goal.shape_of-out
 shape_of-out c = c.loop-table.invariant.writing.size

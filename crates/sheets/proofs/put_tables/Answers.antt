@@ -1,5 +1,4 @@
 -- The answers of `sheets::put_tables`.
-use Prim.Native.Nat.{◌-◌}
 use native.Mathlib.Omega.{arith}
 use Rattle.model.proofs.Check.{accepted_tables, accepted_columns}
 use Rattle.sheets.proofs.Tables.{tabling_begun, tabling_room, tabling_more, tabling_done}

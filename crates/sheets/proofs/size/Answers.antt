@@ -1,5 +1,5 @@
 -- The answers of `sheets::size`.
-use Prim.Native.Nat.{ℕ, ◌+◌, ◌-◌, ◌*◌}
+use Prim.Native.Nat.{ℕ, ◌+◌, ◌*◌}
 use mathlib.Core.Path.{ap, ◌∙◌}
 use native.Mathlib.Omega.{arith}
 use Rattle.model.proofs.Check.{accepted_tables}
@@ -16,7 +16,7 @@ size_of-sum-requires c =
 
 pub loop-table-preserved : goal.loop-table-preserved
 loop-table-preserved c =
-    sizing_more _ _ c.loop-table.invariant (omega arith) c.type_size.ensures.0 c.type_size.ensures.1
+    sizing_more _ _ c.loop-table.invariant (omega arith) c.size_of-sum.ensures.is c.size_of-sum.ensures.small
 
 pub returns : goal.returns
 returns c =

@@ -1,6 +1,5 @@
 -- `sheets::size` meets its contract: the sizes of the tables before this one are added up.
 use Prim.Native.Nat.{◌-◌}
-use mathlib.Core.Path.{ap}
 use Rattle.sheets.proofs.Tables.{Sizing}
 use Rattle.sheets.proofs.size.Given as goal
 

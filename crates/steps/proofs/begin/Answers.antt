@@ -63,7 +63,7 @@ step-requires c =
     let s = f in
     let h =
     subst (λ (r : Reached). Passes (ordinary s.args.cat.now) f.first-w.result r q.pass_first.new.work)
-    c.v-1.given.1
+    c.in-At.is
     q.pass_first.ensures in
     (none, h.0)
 
@@ -78,11 +78,11 @@ returns-in-At c =
     let g = f.first-w.ensures s.args.work.now (search rules) in
     let h =
     subst (λ (r : Reached). Passes (ordinary s.args.cat.now) f.first-w.result r q.pass_first.new.work)
-    p.v-1.given.1
+    p.in-At.is
     q.pass_first.ensures in
     begin_walks _ (ordinary s.args.cat.now) s.args.place s.args.budget s.args.room
     s.args.work.now none
-    g.fresh.sound.enough f.first-w.result s.args.work.now g p.v-1.given.0.0
+    g.fresh.sound.enough f.first-w.result s.args.work.now g p.in-At.v
     q.pass_first.new.work h (search rules)
     c.step.result c.step.new.work c.step.ensures
 
@@ -97,7 +97,7 @@ returns-in-Stop c =
     let g = f.first-w.ensures s.args.work.now (search rules) in
     let h =
     subst (λ (r : Reached). Passes (ordinary s.args.cat.now) f.first-w.result r q.pass_first.new.work)
-    p.enum_told-1.given.1
+    p.in-Stop.is
     q.pass_first.ensures in
     begin_short _ (ordinary s.args.cat.now) s.args.place s.args.budget s.args.room
     s.args.work.now none

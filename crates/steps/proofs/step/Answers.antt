@@ -25,8 +25,8 @@ loop-v-smaller c =
     let s = c in
     let l = c.loop-v in
     let o = c.onward in
-    let g = subst (λ (r : Reached). Goes (ordinary s.args.cat.now) l.v r o.new.1.1.0)
-    c.next-1.given.1 o.ensures in
+    let g = subst (λ (r : Reached). Goes (ordinary s.args.cat.now) l.v r o.new.work)
+    c.in-At.is o.ensures in
     g.2
 
 pub loop-v-preserved : goal.loop-v-preserved
@@ -34,9 +34,9 @@ loop-v-preserved c =
     let s = c in
     let l = c.loop-v in
     let o = c.onward in
-    let g = subst (λ (r : Reached). Goes (ordinary s.args.cat.now) l.v r o.new.1.1.0)
-    c.next-1.given.1 o.ensures in
-    (l.invariant.0, stepping_on _ _ _ _ _ l.invariant.1 c.next-1.given.0.0 o.new.1.1.0 g (search rules))
+    let g = subst (λ (r : Reached). Goes (ordinary s.args.cat.now) l.v r o.new.work)
+    c.in-At.is o.ensures in
+    (l.invariant.0, stepping_on _ _ _ _ _ l.invariant.1 c.in-At.next o.new.work g (search rules))
 
 pub shape_of-work-in-Stop : goal.shape_of-work-in-Stop
 shape_of-work-in-Stop c =
@@ -51,9 +51,9 @@ returns-in-Stop c =
     let l = t.loop-v in
     let s = t in
     let o = t.onward in
-    let g = subst (λ (r : Reached). Goes (ordinary s.args.cat.now) l.v r o.new.1.1.0)
-    t.enum_told-1.given.1 o.ensures in
-    step_done _ _ _ _ _ l.invariant.1 o.new.1.1.0 g _ c.zero_words.ensures (search rules)
+    let g = subst (λ (r : Reached). Goes (ordinary s.args.cat.now) l.v r o.new.work)
+    t.in-Stop.is o.ensures in
+    step_done _ _ _ _ _ l.invariant.1 o.new.work g _ c.zero_words.ensures (search rules)
 
 pub put-requires : goal.put-requires
 put-requires c = puts _ _ _ _ _ c.loop-v.invariant.1 (omega arith)

@@ -10,7 +10,7 @@ returns c =
     let five = six in
     let four = five in
     let three = four in
-    let two = three in
+    let two = three.before.before.before.before in
     let one = two.before.before.before.before in
     eight_joined _ _ _ _ _ _ _ _ _ (search rules) one.join_block.ensures two.join_block-2.ensures
     three.join_block-3.ensures four.join_block-4.ensures five.join_block-5.ensures

@@ -1,5 +1,4 @@
 -- The answers of `tags::behind_blocks`.
-use Prim.Native.Nat.{◌-◌}
 use native.Mathlib.Omega.{arith}
 use Rattle.tags.specs.Next.{block_bytes}
 use Rattle.tags.proofs.Tags.{passed_none, passed_block}

@@ -1,5 +1,4 @@
 -- The answers of `tags::count_rows`.
-use Prim.Native.Nat.{◌-◌}
 use mathlib.Core.Path.{refl}
 use native.Mathlib.Omega.{arith}
 use Rattle.tags.proofs.Counts.{counting_begun, counting_more, counting_done}

@@ -1,5 +1,4 @@
 -- The answers of `tags::less_in`.
-use Prim.Native.Nat.{◌-◌}
 use native.Mathlib.Omega.{arith}
 use Rattle.filled.proofs.Below.{below_more}
 use Rattle.tags.proofs.less_in.Goals as goal

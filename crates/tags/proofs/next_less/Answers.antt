@@ -1,5 +1,4 @@
 -- The answers of `tags::next_less`.
-use Prim.Native.Nat.{◌-◌}
 use native.Mathlib.Omega.{arith}
 use Rattle.tags.proofs.Tags.{passed_more, passed_less, passed_end}
 use Rattle.tags.proofs.next_less.Goals as goal

@@ -1,5 +1,4 @@
 -- The answers of `tags::next_tag`.
-use Prim.Native.Nat.{◌-◌}
 use mathlib.Core.Path.{sym, ◌∙◌}
 use native.Mathlib.Omega.{arith}
 use Rattle.tags.proofs.Tags.{less_more, less_tag, less_none}
@@ -14,7 +13,7 @@ overflow_add-i c = omega arith
 pub returns-then-byte_at-eq116 : goal.returns-then-byte_at-eq116
 returns-then-byte_at-eq116 c =
     less_tag _ _ _ c.loop-i.invariant (omega arith)
-    (sym c.before.byte_at_lem.ensures ∙ c.if-byte_at-eq116.true)
+    (sym c.byte_at.ensures ∙ c.if-byte_at-eq116.true)
 
 pub overflow_add-i-in-loop-i : goal.overflow_add-i-in-loop-i
 overflow_add-i-in-loop-i c = omega arith
@@ -25,7 +24,7 @@ loop-i-smaller c = omega (arith, c.next_less-i-in-loop-i.ensures.low)
 pub loop-i-preserved : goal.loop-i-preserved
 loop-i-preserved c =
     less_more _ _ _ _ c.loop-i.invariant (omega arith)
-    (λ z. c.if-byte_at-eq116.false (c.before.before.byte_at_lem.ensures ∙ z)) c.next_less-i-in-loop-i.ensures
+    (λ z. c.if-byte_at-eq116.false (c.byte_at.ensures ∙ z)) c.next_less-i-in-loop-i.ensures
 
 pub returns : goal.returns
 returns c = less_none _ _ _ c.loop-i.invariant (omega arith)

@@ -10,7 +10,7 @@ first_pair-requires c =
 
 pub returns : goal.returns
 returns c =
-    c.first_pair_lem.ensures
+    c.first_pair.ensures
     ∙ posed_pair c.requires
     c.visible.ensures c.rows.ensures
     c.lay_question.ensures

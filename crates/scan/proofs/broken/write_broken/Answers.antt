@@ -4,10 +4,16 @@ use native.Mathlib.Omega.{arith}
 use lib.ListN.{length}
 use Rattle.filled.proofs.Filled.{filled_none, filled_more, filled_moved}
 use Rattle.scan.proofs.Writing.{power_some, set_inside, set_fits, broken_is}
+use Rattle.scan.proofs.broken.write_broken.Lts as lts
+use Rattle.scan.proofs.broken.write_broken.Tie as tie
+use Rattle.scan.proofs.broken.write_broken.Reads as reads
 use Rattle.scan.proofs.broken.write_broken.Goals as goal
 
+abbrev After-if_seen : Type 0
+After-if_seen = lts.After-if_seen tie.the-claims reads.Pre reads.Post goal.the-invariant-loop-s goal.the-decreases-loop-s
+
 -- a word of the table
-within : (c : tie.After-if-seen invariant-loop decreases-loop)
+within : (c : After-if_seen)
     → c.loop-s.s < length c.loop-s.words
 within c =
     omega (

@@ -22,11 +22,11 @@ pub returns-in-Set : goal.returns-in-Set
 unfolding bits_of
 returns-in-Set c =
     let s = c in
-    set_is _ _ (Set c.s-1.given.0.0) s.requires.n_le_column_bound s.requires.index_bound c.at.ensures
-    c.s-1.given.1
+    set_is _ _ (Set c.in-Set.s) s.requires.n_le_column_bound s.requires.index_bound c.at.ensures
+    c.in-Set.is
 
 pub returns-in-Nothing : goal.returns-in-Nothing
 unfolding bits_of
 returns-in-Nothing c =
     let s = c in
-    set_is _ _ Nothing s.requires.n_le_column_bound s.requires.index_bound c.at.ensures c.enum_told-1.given.1
+    set_is _ _ Nothing s.requires.n_le_column_bound s.requires.index_bound c.at.ensures c.in-Nothing.is

@@ -25,17 +25,17 @@ pub returns-then-n-target : goal.returns-then-n-target
 returns-then-n-target c =
     let s = c in
     let e : next_of s.args.w.members (members_of s.args.w.left) ≡ Nothing =
-    sym c.next.ensures ∙ c.enum_told-1.given.1 in
+    sym c.next.ensures ∙ c.in-Nothing.is in
     follow_none (ordinary s.args.cat.now) s.args.w s.args.work.now s.requires.good s.requires.pending_value
     s.args.work.now e (omega arith)
 
 pub returns-in-Set : goal.returns-in-Set
 returns-in-Set c =
     let s = c in
-    let e : next_of s.args.w.members (members_of s.args.w.left) ≡ Set c.s-1.given.0.0 =
-    sym c.next.ensures ∙ c.s-1.given.1 in
+    let e : next_of s.args.w.members (members_of s.args.w.left) ≡ Set c.in-Set.s =
+    sym c.next.ensures ∙ c.in-Set.is in
     follow_within (ordinary s.args.cat.now) s.args.w s.args.work.now s.requires.good s.requires.pending_value
-    c.s-1.given.0.0 s.requires.budget_nonzero e
+    c.in-Set.s s.requires.budget_nonzero e
 
 pub returns-else-n-target : goal.returns-else-n-target
 returns-else-n-target c =
@@ -45,7 +45,7 @@ returns-else-n-target c =
     let p = v.prepare-entered in
     let e : next_of s.args.w.members (members_of s.args.w.left) ≡ Nothing =
     sym v.next.ensures
-    ∙ v.enum_told-1.given.1 in
-    subst (λ (u : Walk). After l s.args.w u p.new.1.1.0) (sym c.entering.ensures)
-    (follow_target l s.args.w s.args.work.now s.requires.good s.requires.pending_value _ _ _ _ p.new.1.1.0
+    ∙ v.in-Nothing.is in
+    subst (λ (u : Walk). After l s.args.w u p.new.work) (sym c.entering.ensures)
+    (follow_target l s.args.w s.args.work.now s.requires.good s.requires.pending_value _ _ _ _ p.new.work
     s.requires.budget_nonzero e refl (omega arith) c.visible-members.ensures p.ensures (search rules))

@@ -27,8 +27,8 @@ pass-requires c =
     let s = c in
     let f = c.following in
     let a =
-    subst (λ (r : Reached). Follows (ordinary s.args.cat.now) s.args.w r f.new.1.1.0)
-    c.v-1.given.1
+    subst (λ (r : Reached). Follows (ordinary s.args.cat.now) s.args.w r f.new.work)
+    c.in-At.is
     f.ensures in
     record {
       accepted = s.requires.accepted;
@@ -43,17 +43,17 @@ returns-in-At c =
     let f = p.following in
     let q = c.pass in
     let a =
-    subst (λ (r : Reached). Follows (ordinary s.args.cat.now) s.args.w r f.new.1.1.0)
-    p.v-1.given.1
+    subst (λ (r : Reached). Follows (ordinary s.args.cat.now) s.args.w r f.new.work)
+    p.in-At.is
     f.ensures in
     goes (ordinary s.args.cat.now) s.args.w s.args.work.now s.requires.good s.requires.pending_value
-    p.v-1.given.0.0 q.result
-    f.new.1.1.0 q.new.1.1.0 a q.ensures
+    p.in-At.v q.result
+    f.new.work q.new.work a q.ensures
 
 pub returns-in-Stop : goal.returns-in-Stop
 returns-in-Stop c =
     let s = c in
     let f = c.following in
     stopped_end (ordinary s.args.cat.now) s.args.w s.requires.pending_value
-    (subst (λ (r : Reached). Follows (ordinary s.args.cat.now) s.args.w r f.new.1.1.0)
-    c.enum_told-1.given.1 f.ensures)
+    (subst (λ (r : Reached). Follows (ordinary s.args.cat.now) s.args.w r f.new.work)
+    c.in-Stop.is f.ensures)

@@ -25,5 +25,5 @@ pub returns : goal.returns
 returns c =
     let s = c in
     let r = c.rights-mask in
-    passes_by (ordinary s.args.cat.now) s.args.w s.args.work.now s.requires.fresh _ r.ensures.0 _
-    (λ some. r.ensures.1) (search rules) c.passed.result c.passed.ensures
+    passes_by (ordinary s.args.cat.now) s.args.w s.args.work.now s.requires.fresh _ r.ensures.value _
+    (λ some. r.ensures.ready_2) (search rules) c.passed.result c.passed.ensures

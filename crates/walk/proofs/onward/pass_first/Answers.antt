@@ -63,13 +63,12 @@ passed-requires-2 c =
 
 pub returns : goal.returns
 returns c =
-    let s =
-    c.before.before.before.before.before.before.before.before.before.before.before.before.before.before.before in
+    let s = c in
     let l = ordinary s.args.cat.now in
     let words = s.args.work.now in
     let e = c.entering-v in
     let r = c.rights-mask in
-    entered_passes l s.args.w words s.pre.1 e.ensures c.passed-2.result r.new.1.1.1.1.1.1.0
-    (passes_by l e.result words (entered_fresh l s.args.w words s.pre.1 e.ensures words refl) _
-    r.ensures.0 _
-    (λ some. r.ensures.1) (search rules) c.passed-2.result c.passed-2.ensures)
+    entered_passes l s.args.w words s.requires.fresh e.ensures c.passed-2.result r.new.work
+    (passes_by l e.result words (entered_fresh l s.args.w words s.requires.fresh e.ensures words refl) _
+    r.ensures.value _
+    (λ some. r.ensures.ready_2) (search rules) c.passed-2.result c.passed-2.ensures)
