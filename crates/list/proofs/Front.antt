@@ -40,9 +40,9 @@ same_answer (Some xs) None bytes n long within c e = absurd c
 same_answer (Some xs) (Some ys) bytes n long within c e =
     ⊎_elim
     (λ l.
-      let full : length (take n bytes) ≡ file_bound + 1 = length-take-le n bytes within ∙ omega arith in
-      sym (answer_long (take n bytes) (omega (arith, full)))
-      ∙ answer_long xs (omega (arith, full, ap length c, length-append (take n bytes) ys)))
+    let full : length (take n bytes) ≡ file_bound + 1 = length-take-le n bytes within ∙ omega arith in
+    sym (answer_long (take n bytes) (omega (arith, full)))
+    ∙ answer_long xs (omega (arith, full, ap length c, length-append (take n bytes) ys)))
     (λ l. ap answer_text (sym (append-nil (take n bytes)) ∙ ap (λ r. take n bytes ++ r) (sym (e l)) ∙ sym c))
     (le_or_lt (length bytes) n)
 

@@ -74,12 +74,11 @@ pub torn_first : (cat text out : List ℕ) (p : Page) (a b : Option (List ℕ)) 
     → AppendsFirst a b (front p.len out) → AppendsFirst a b text
 torn_first cat text out p a b g t =
     let k = t.0 in
-    let page = take p.len out in
-    (
+    let page = take p.len out in (
       length (take k page),
       subst (Appends a b)
-      (ap (take k) (page_front p out g.within)
-      ∙ sym (ap (take (length (take k page))) (sym g.is) ∙ first_of [] page (rest cat p.place p.last) k)) t.1,
+          (ap (take k) (page_front p out g.within)
+          ∙ sym (ap (take (length (take k page))) (sym g.is) ∙ first_of [] page (rest cat p.place p.last) k)) t.1,
     )
 
 pub torn_more : (cat others text out : List ℕ) (p : Page) (s : ℕ) (a b c : Option (List ℕ))
@@ -87,12 +86,11 @@ pub torn_more : (cat others text out : List ℕ) (p : Page) (s : ℕ) (a b c : O
 torn_more cat others text out p s a b c before g t =
     let k = t.0 in
     let page = take p.len out in
-    let both = before.bytes ++ take k page in
-    (
+    let both = before.bytes ++ take k page in (
       length both,
       subst (Appends a c)
-      (sym (ap (take (length both)) (sym before.whole ∙ ap (λ l. before.bytes ++ l) (sym g.is))
-      ∙ first_of before.bytes page (rest cat p.place p.last) k))
-      (Appends-trans a b c before.bytes (take k page) before.taken
-      (subst (Appends b c) (ap (take k) (page_front p out g.within)) t.1)),
+          (sym (ap (take (length both)) (sym before.whole ∙ ap (λ l. before.bytes ++ l) (sym g.is))
+          ∙ first_of before.bytes page (rest cat p.place p.last) k))
+          (Appends-trans a b c before.bytes (take k page) before.taken
+          (subst (Appends b c) (ap (take k) (page_front p out g.within)) t.1)),
     )

@@ -10,8 +10,8 @@ invariant-loop-page g l = record {
   out_same : length l.out ≡ length l.initial.out;
   work_same : length l.work ≡ length l.initial.work;
   printed :
-    Printed (g.W.Write.contents l.fn.to) (g.W.Write.contents l.to) (rest l.file l.page.place l.page.last)
-    (answer_text l.file) l.sum;
+      Printed (g.W.Write.contents l.fn.to) (g.W.Write.contents l.to) (rest l.file l.page.place l.page.last)
+      (answer_text l.file) l.sum;
   more : l.page.place < l.page.last → Listable l.file l.page.last;
 }
 
