@@ -61,8 +61,10 @@ module _ {A : Type 0} (e : A) where
     unfolding gather_in
     in_mem [] x i m = absurd (mathlib.Core.List.Memᴰ.not-nil i)
     in_mem (y ∷ ys) x i m =
-        ⊎_elim (λ (q : x ≡ y). mathlib.Core.List.Memᴰ.append_left (gather_in ys f) (subst (λ (z : B). Memᴰ e (f z)) q m))
-        (λ (r : Memᴰ x ys). mathlib.Core.List.Memᴰ.append_right (f y) (in_mem ys x r m)) (mathlib.Core.List.Memᴰ.cases_cons i)
+        ⊎_elim (λ (q : x ≡ y). mathlib.Core.List.Memᴰ.append_left (gather_in ys f)
+        (subst (λ (z : B). Memᴰ e (f z)) q m))
+        (λ (r : Memᴰ x ys). mathlib.Core.List.Memᴰ.append_right (f y) (in_mem ys x r m))
+        (mathlib.Core.List.Memᴰ.cases_cons i)
 
     mem_in : (xs : List B) → Memᴰ e (gather_in xs f) → (x : B) × Memᴰ x xs × Memᴰ e (f x)
     unfolding gather_in
@@ -75,7 +77,11 @@ module _ {A : Type 0} (e : A) where
   -- one element or none
   one_is : (b : Bool) (r : A) → Memᴰ e (pick b (r ∷ []) []) ↔ (T b × (e ≡ r))
   one_is true r = (
-    λ m. (tt, ⊎_elim (λ (q : e ≡ r). q) (λ n. absurd (mathlib.Core.List.Memᴰ.not-nil n)) (mathlib.Core.List.Memᴰ.cases_cons m)),
+    λ m. (
+      tt,
+      ⊎_elim (λ (q : e ≡ r). q) (λ n. absurd (mathlib.Core.List.Memᴰ.not-nil n))
+          (mathlib.Core.List.Memᴰ.cases_cons m),
+    ),
     λ w. mathlib.Core.List.Memᴰ.head w.1,
   )
   one_is false r = (λ m. absurd (mathlib.Core.List.Memᴰ.not-nil m), λ w. absurd w.0)

@@ -17,7 +17,8 @@ use Rattle.model.specs.Entries.{entry_code, later_code, rest_code, entries_code}
 use Rattle.model.specs.Entry.{earlier}
 use Rattle.model.specs.Reading.{count_in, entries_held, tail_code, read_code}
 use Rattle.model.specs.Evidence.{record_count, records_held}
-use Rattle.model.specs.Verify.{are_true_records, are_sound_entries, are_covered_sets, records_code, sound_code, cover_code}
+use Rattle.model.specs.Verify.{are_true_records, are_sound_entries, are_covered_sets}
+use Rattle.model.specs.Verify.{records_code, sound_code, cover_code}
 use Rattle.model.specs.Verify.{evidence_code, verify_code, verify_meaning, TrueRecords, SoundEntries, CoveredSets}
 use Rattle.model.specs.declared.Entry.{Entry}
 use Rattle.model.specs.declared.Evidence.{Evidence}

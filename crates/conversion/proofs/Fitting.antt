@@ -15,7 +15,8 @@ use Rattle.model.specs.Encode.{encode}
 use Rattle.model.specs.Forest.{Forest, Fits}
 use Rattle.model.specs.Xml.{Document}
 use Rattle.model.specs.Form.{document_at}
-use Rattle.model.specs.Convert.{Tag, tags_in, count_of, contents_from, converted, taken, empty_code, fit_code, many_code}
+use Rattle.model.specs.Convert.{Tag, tags_in, count_of, contents_from, converted, taken, empty_code, fit_code}
+use Rattle.model.specs.Convert.{many_code}
 use Rattle.model.specs.Convert.{full_code}
 use Rattle.model.specs.declared.Refusal.TheVariants.{UnfitText, NoRoom}
 use Rattle.standing.specs.Tags.{rows_of}
@@ -48,7 +49,8 @@ empty_ground shape =
 
 -- 22: there are too many tags of a table
 many_ground : (ts : List Tag) (n : ℕ)
-    → Ground ((t : ℕ) → t < n → count_of t ts ≤ row_bound) ((t : ℕ) × (t < n) × (row_bound < count_of t ts)) (number NoRoom)
+    → Ground ((t : ℕ) → t < n → count_of t ts ≤ row_bound)
+    ((t : ℕ) × (t < n) × (row_bound < count_of t ts)) (number NoRoom)
     (first_of n 0 (many_code ts))
 unfolding many_code
 many_ground ts n =

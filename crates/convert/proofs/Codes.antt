@@ -19,7 +19,8 @@ use Rattle.model.specs.declared.Refusal.TheVariants.{BadText, UnfitText, NoRoom}
 use Rattle.model.proofs.Grounds.{is_this, is_next}
 
 -- a table of the shape has rows, or none
-pub some_rows : (shape : List ℕ) (t : ℕ) {r : ℕ} → r ≡ rows shape t → (r ≡ 0 → ⊥) → number UnfitText ≡ empty_code shape t
+pub some_rows : (shape : List ℕ) (t : ℕ) {r : ℕ} → r ≡ rows shape t → (r ≡ 0 → ⊥)
+    → number UnfitText ≡ empty_code shape t
 unfolding empty_code
 some_rows shape t e n = sym (if_eq_no 0 (λ z. n (e ∙ z)))
 

@@ -10,9 +10,11 @@ use Rattle.model.specs.Bounds.{row_bound}
 use Rattle.model.specs.Refusal.{last_refusal, or_else, first_of}
 use Rattle.model.specs.Catalogue.{tables, columns}
 use Rattle.model.specs.Check.{Accepted, check_code}
-use Rattle.model.specs.Convert.{Tag, tags_in, count_of, converted, form_code, empty_code, fit_code, many_code, full_code}
+use Rattle.model.specs.Convert.{Tag, tags_in, count_of, converted, form_code, empty_code, fit_code, many_code}
+use Rattle.model.specs.Convert.{full_code}
 use Rattle.model.specs.Convert.{convert_code, converted_output}
-use Rattle.model.proofs.Grounds.{or_else_left, or_else_assoc, or_else_le, first_of_le, first_of_each, if_eq_le, if_lt_le}
+use Rattle.model.proofs.Grounds.{or_else_left, or_else_assoc, or_else_le, first_of_le, first_of_each}
+use Rattle.model.proofs.Grounds.{if_eq_le, if_lt_le}
 use Rattle.model.proofs.Grounds.{or_else_right, if_lt_fails, is_this, is_next}
 use Rattle.model.proofs.Check.{accepted_tables, accepted_columns}
 use Rattle.grounds.proofs.Sound.{check_code_le}

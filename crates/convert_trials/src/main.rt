@@ -10,25 +10,26 @@ mod print;
 
 use bounds::{cuts, no_output, outputs, shapes};
 use large::{deep, many};
+use std::io;
 
-fn main() {
-    fine::white_space();
-    fine::no_white_space();
-    fine::before_attributes();
-    fine::quotes();
-    fine::ends();
-    fine::names();
-    fine::numbers();
-    fine::twice();
-    fine::others();
-    fine::unfit();
-    fine::order();
-    cuts();
-    outputs();
-    no_output();
-    shapes();
-    deep(16);
-    deep(17);
-    many(4096);
-    many(4097);
+fn main(rt: HostRuntime) -> io::Result<()> {
+    fine::white_space(&rt)?;
+    fine::no_white_space(&rt)?;
+    fine::before_attributes(&rt)?;
+    fine::quotes(&rt)?;
+    fine::ends(&rt)?;
+    fine::names(&rt)?;
+    fine::numbers(&rt)?;
+    fine::twice(&rt)?;
+    fine::others(&rt)?;
+    fine::unfit(&rt)?;
+    fine::order(&rt)?;
+    cuts(&rt)?;
+    outputs(&rt)?;
+    no_output(&rt)?;
+    shapes(&rt)?;
+    deep(&rt, 16)?;
+    deep(&rt, 17)?;
+    many(&rt, 4096)?;
+    many(&rt, 4097)
 }

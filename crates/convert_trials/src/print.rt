@@ -1,5 +1,6 @@
 // One trial: a text by a shape, mostly the album's, and what came back on a line.
 use model::ConvertAnswer;
+use std::io;
 use trial_kit::{end, print_count, print_refusal, print_word};
 
 // The album's two tables without rows.
@@ -8,15 +9,16 @@ pub const SHAPE: [u8; 26] = [
 ];
 
 // What the call answered, behind a colon.
-pub fn print_converted(answer: ConvertAnswer) {
-    print_word(b":");
+pub fn print_converted(rt: &impl Print, answer: ConvertAnswer) -> io::Result<()> {
+    print_word(rt, b":")?;
     match answer {
         ConvertAnswer::Converted { bytes } => {
-            print_word(b" converted");
-            print_count(bytes as u64);
+            print_word(rt, b" converted")?;
+            print_count(rt, bytes as u64)?;
         }
-        ConvertAnswer::Refused(why) => print_refusal(why),
+        ConvertAnswer::Refused(why) => print_refusal(rt, why)?,
     }
+    Ok(())
 }
 
 // The conversion of the first n bytes of a text, or of all where there are no more.
@@ -28,18 +30,24 @@ pub fn convert_front(shape: &[u8], text: &[u8], n: usize, out: &mut [u8]) -> Con
 }
 
 // A trial of a text by a shape on an output, behind its name.
-pub fn trial_on(name: &[u8], shape: &[u8], text: &[u8], out: &mut [u8]) {
-    print_word(name);
-    print_converted(convert::convert(shape, text, out));
-    end();
+pub fn trial_on(
+    rt: &impl Print,
+    name: &[u8],
+    shape: &[u8],
+    text: &[u8],
+    out: &mut [u8],
+) -> io::Result<()> {
+    print_word(rt, name)?;
+    print_converted(rt, convert::convert(shape, text, out))?;
+    end(rt)
 }
 
 // The same on an output that is long enough, and by the album's shape.
-pub fn trial_by(name: &[u8], shape: &[u8], text: &[u8]) {
+pub fn trial_by(rt: &impl Print, name: &[u8], shape: &[u8], text: &[u8]) -> io::Result<()> {
     let mut out = [7u8; 100];
-    trial_on(name, shape, text, &mut out);
+    trial_on(rt, name, shape, text, &mut out)
 }
 
-pub fn trial(name: &[u8], text: &[u8]) {
-    trial_by(name, &SHAPE, text);
+pub fn trial(rt: &impl Print, name: &[u8], text: &[u8]) -> io::Result<()> {
+    trial_by(rt, name, &SHAPE, text)
 }

@@ -70,7 +70,8 @@ pub fn target_covered(
 ) -> bool
     requires accepted { Accepted cat.now }
     requires target_bound { target < tables cat.now }
-    requires count_in_bounds { (first + entry_bytes * count ≤ length list.now) × (evidence_bytes * records ≤ length bytes.now)
+    requires count_in_bounds { (first + entry_bytes * count ≤ length list.now)
+        × (evidence_bytes * records ≤ length bytes.now)
         × SoundEntries cat.now (entries_from list.now count first)
         × Each (TrueRecord cat.now) (records_from bytes.now records 0) }
     ensures { (result ≡ true)

@@ -21,7 +21,8 @@ abbrev pub content_from : List ℕ → (ℕ → ℕ → Cells → Bool) → ℕ 
 content_from s fits d up q = many s (is_open s) (element_then s fits d up) q
 
 module _ (s : List ℕ) (fits : ℕ → ℕ → Cells → Bool) (d up : ℕ) where
-  pub content_begun : (p : ℕ) {q : ℕ} → q ≡ skip s p → content_from s fits d up q ≡ content_by s (element_at s fits d up) p
+  pub content_begun : (p : ℕ) {q : ℕ} → q ≡ skip s p
+      → content_from s fits d up q ≡ content_by s (element_at s fits d up) p
   unfolding content_by
   content_begun p e = ap (content_from s fits d up) e
 

@@ -14,7 +14,8 @@ use Rattle.model.specs.Bytes.{byte_at}
 use Rattle.model.specs.Forest.{Cells}
 use Rattle.model.specs.Xml.{open_row, close, less, slash, greater}
 use Rattle.model.specs.Form.{cells_in, is_distinct, next, many_in, many, skip, digits_end, expect, word_at, numeral_at}
-use Rattle.model.specs.Form.{attribute_at, is_attribute, tag_at, table_of, attributes_of, end_at, rest_at, is_open, content_by}
+use Rattle.model.specs.Form.{attribute_at, is_attribute, tag_at, table_of, attributes_of, end_at, rest_at}
+use Rattle.model.specs.Form.{is_open, content_by}
 use Rattle.model.specs.Form.{element_at}
 use Rattle.model.proofs.Truth.{is_true, true_is, and_is}
 use Rattle.readers.specs.Stands.{GoesOn}
@@ -96,7 +97,12 @@ module _ (s : List ℕ) where
     content_on : (p : ℕ) {r : ℕ} → content_by s element p ≡ r → (r ≡ 0 → ⊥) → p ≤ r
     unfolding content_by
     content_on p e n =
-        omega (arith, skip_low s p, many_on s (is_open s) (λ q. next (element q) (skip s)) elements_go_by (skip s p) e n)
+        omega (
+          arith,
+          skip_low s p,
+          many_on s (is_open s) (λ q. next (element q) (skip s)) elements_go_by
+              (skip s p) e n,
+        )
 
     rest_on : (name : List ℕ) (p : ℕ) {r : ℕ} → rest_at s (content_by s element) name p ≡ r → (r ≡ 0 → ⊥) → p < r
     unfolding rest_at

@@ -7,7 +7,8 @@ use native.Mathlib.Omega.{arith}
 use lib.ListN.{drop}
 use Rattle.columns.specs.Test.{pick}
 use Rattle.model.specs.Forest.{Cells}
-use Rattle.model.specs.Form.{number_in, capped, cells_in, next, tag_at, table_of, attributes_of, name_of, rest_at, content_by}
+use Rattle.model.specs.Form.{number_in, capped, cells_in, next, tag_at, table_of, attributes_of, name_of}
+use Rattle.model.specs.Form.{rest_at, content_by}
 use Rattle.model.specs.Form.{element_at}
 use Rattle.scanner.proofs.Read.{none_read, some_read, none_picked, some_picked}
 

@@ -12,7 +12,8 @@ use Rattle.model.specs.Text.{decimal}
 use Rattle.model.specs.Forest.{Cells, Forest}
 use Rattle.model.specs.Xml.{is_white, White, Attributes, Element, Content, empty, filled, blank, more, open_row}
 use Rattle.model.specs.Xml.{row_letter, greater, close}
-use Rattle.model.specs.Form.{capped, is_distinct, table_of, attributes_of, name_of, rest_at, is_open, content_by, element_at}
+use Rattle.model.specs.Form.{capped, is_distinct, table_of, attributes_of, name_of, rest_at, is_open}
+use Rattle.model.specs.Form.{content_by, element_at}
 use Rattle.model.proofs.Truth.{is_true}
 use Rattle.readers.specs.Stands.{Stands}
 use Rattle.standing.specs.Tags.{TakenIn}

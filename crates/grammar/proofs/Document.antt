@@ -20,7 +20,8 @@ use Rattle.standing.specs.Tags.{TakenIn}
 use Rattle.grammar.proofs.Rest.{Rest, ended, around, rest_read, rest_spelled, rest_ends, rest_some, rest_within}
 use Rattle.grammar.proofs.Sound.{content_sound}
 use Rattle.grammar.proofs.Complete.{content_complete, around_content}
-use Rattle.grammar.proofs.Whole.{Whole, whole_join, whole_cut, filled_join, filled_cut, tag_at_lem, rest_at_lem, end_at_lem}
+use Rattle.grammar.proofs.Whole.{Whole, whole_join, whole_cut, filled_join, filled_cut, tag_at_lem}
+use Rattle.grammar.proofs.Whole.{rest_at_lem, end_at_lem}
 
 -- the content of the catalogue
 abbrev in_catalogue : List ℕ → (ℕ → ℕ → Cells → Bool) → ℕ → ℕ

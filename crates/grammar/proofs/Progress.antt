@@ -12,7 +12,8 @@ use Rattle.columns.specs.Test.{pick}
 use Rattle.model.specs.Bytes.{byte_at}
 use Rattle.model.specs.Forest.{Cells}
 use Rattle.model.specs.Xml.{less, slash}
-use Rattle.model.specs.Form.{next, many_in, skip, tag_at, table_of, attributes_of, name_of, rest_at, is_open, content_by}
+use Rattle.model.specs.Form.{next, many_in, skip, tag_at, table_of, attributes_of, name_of, rest_at, is_open}
+use Rattle.model.specs.Form.{content_by}
 use Rattle.model.specs.Form.{element_at}
 use Rattle.model.proofs.Truth.{and_is, true_is}
 use Rattle.readers.specs.Stands.{GoesOn}

@@ -12,7 +12,8 @@ use Rattle.model.specs.Bytes.{byte_at}
 use Rattle.model.specs.Text.{decimal}
 use Rattle.model.specs.Forest.{Cells}
 use Rattle.model.specs.Xml.{is_white, White, Attributes, attribute, open_row, row_letter, column_letter, greater, slash}
-use Rattle.model.specs.Form.{is_digit, number_in, capped, cells_in, is_distinct, many, skip, numeral_at, word_at, attribute_at}
+use Rattle.model.specs.Form.{is_digit, number_in, capped, cells_in, is_distinct, many, skip, numeral_at}
+use Rattle.model.specs.Form.{word_at, attribute_at}
 use Rattle.model.specs.Form.{is_attribute, tag_at, table_of, attributes_of, name_of}
 use Rattle.readers.specs.Stands.{Stands, Loose, no_more, one_more}
 use Rattle.readers.proofs.Next.{next_read}

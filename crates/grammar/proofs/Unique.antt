@@ -109,7 +109,8 @@ content_by_lem (more {d} {table} {l} {rest} {cells} {inside} {after} w h o c) s 
     (ap (rows_from s (element_at s always d 0) (inside_at s d) left) read ∙ others)
 
 -- the rows behind a tag
-behind_none : {s r : List ℕ} (content : ℕ → Forest) {a q : ℕ} → Stands s a (slash ∷ r) q → rows_behind s content a ≡ none
+behind_none : {s r : List ℕ} (content : ℕ → Forest) {a q : ℕ} → Stands s a (slash ∷ r) q
+    → rows_behind s content a ≡ none
 unfolding rows_behind
 behind_none content h = if_eq_yes _ (stands_byte h)
 

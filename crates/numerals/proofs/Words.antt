@@ -49,6 +49,7 @@ pub quote_no_digit : (x : ℕ) → T (is_quote x) → is_digit x ≡ false
 quote_no_digit x t = no_digit x (or_low x 39 (eqb x 34) (omega arith) (low_is x 34 (omega arith)) t)
 
 -- behind white space no digit follows where none follows without it
-pub white_ahead : (w rest : List ℕ) → White w → is_digit (get_or rest 0 0) ≡ false → is_digit (get_or (w ++ rest) 0 0) ≡ false
+pub white_ahead : (w rest : List ℕ) → White w → is_digit (get_or rest 0 0) ≡ false
+    → is_digit (get_or (w ++ rest) 0 0) ≡ false
 white_ahead [] rest h e = e
 white_ahead (x ∷ w) rest h e = white_no_digit x h.0

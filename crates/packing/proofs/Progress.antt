@@ -172,7 +172,8 @@ no_grounds (f ∷ es) k l e = absurd (omega arith)
 
 -- the checks of all entries, after the entry at i
 first_check : (es : List Entry) → 0 < length es
-    → entries_code es ≡ or_else (entry_code (get_or es 0 (entry 0 0 0))) (rest_code (get_or es 0 (entry 0 0 0)) (drop 1 es))
+    → entries_code es
+    ≡ or_else (entry_code (get_or es 0 (entry 0 0 0))) (rest_code (get_or es 0 (entry 0 0 0)) (drop 1 es))
 unfolding entries_code
 first_check [] h = absurd (omega arith)
 first_check (e ∷ es) h = refl
@@ -201,8 +202,10 @@ checks_step es before i {e} t h p c b = go (ℕ_discrete i 0)
     go (no n) =
         c (omega arith)
         ∙ next_check es before i h
-        ∙ ap (λ (f : Entry). or_else (or_else (entry_code f) (later_code before f)) (rest_code f (drop (i + 1) es))) (sym p)
-        ∙ ap (λ (x : ℕ). or_else x (rest_code e (drop (i + 1) es))) (sym (b ∙ ap (or_else (entry_code e)) (if_eq_no 0 n)))
+        ∙ ap (λ (f : Entry). or_else (or_else (entry_code f) (later_code before f)) (rest_code f (drop (i + 1) es)))
+        (sym p)
+        ∙ ap (λ (x : ℕ). or_else x (rest_code e (drop (i + 1) es)))
+        (sym (b ∙ ap (or_else (entry_code e)) (if_eq_no 0 n)))
 
 all_checked : (es : List Entry) (e : Entry) (n : ℕ) → n ≡ length es → rest_code e (drop n es) ≡ 0
 unfolding rest_code

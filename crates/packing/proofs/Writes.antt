@@ -33,7 +33,8 @@ sets_behind p t vs n k e f h =
 bytes_append : (es fs : List Entry) → entries_bytes (es ++ fs) ≡ entries_bytes es ++ entries_bytes fs
 unfolding entries_bytes
 bytes_append [] fs = refl
-bytes_append (e ∷ es) fs = rw (bytes_append es fs) (sym (append_assoc (bytes_of e) (entries_bytes es) (entries_bytes fs)))
+bytes_append (e ∷ es) fs =
+    rw (bytes_append es fs) (sym (append_assoc (bytes_of e) (entries_bytes es) (entries_bytes fs)))
 
 bytes_one : (e : Entry) → entries_bytes (e ∷ []) ≡ bytes_of e
 unfolding entries_bytes

@@ -7,8 +7,9 @@ mod sets;
 
 use places::trial_places;
 use sets::trial_sets;
+use std::io;
 
-fn main() {
-    trial_sets();
-    trial_places();
+fn main(rt: HostRuntime) -> io::Result<()> {
+    trial_sets(&rt)?;
+    trial_places(&rt)
 }

@@ -4,6 +4,7 @@
 use columns::{ColumnSet, SetOrNone};
 use listing::{Filled, RUN_BOUND, list_filled};
 use model::Entry;
+use std::io;
 use trial_kit::{end, entries, keyed, print_count, print_listed, print_word, soil};
 
 // Are two entries the same?
@@ -18,10 +19,9 @@ fn equal(a: Entry, b: Entry) -> bool {
 }
 
 // Are the first entries of one run those of another from an index on?
-fn stand_at(run: Filled, count: usize, other: Filled, from: usize) -> bool {
-    let mut i: usize = 0;
+fn stand_at(run: &Filled, count: usize, other: &Filled, from: usize) -> bool {
     let mut j = from;
-    while i < count {
+    for i in 0..count {
         if i >= RUN_BOUND {
             return false;
         }
@@ -33,7 +33,6 @@ fn stand_at(run: Filled, count: usize, other: Filled, from: usize) -> bool {
         if !equal(a, b) {
             return false;
         }
-        i += 1;
         j += 1;
     }
     true
@@ -41,7 +40,7 @@ fn stand_at(run: Filled, count: usize, other: Filled, from: usize) -> bool {
 
 // The left side of the first entry that the call for one set gave, if it gave one, and whether its entries are those by
 // which the walk past the set has more than the walk up to it.
-fn print_same(single: Filled, before: Filled, past: Filled) {
+fn print_same(rt: &impl Print, single: &Filled, before: &Filled, past: &Filled) -> io::Result<()> {
     let a = single.answer;
     let b = before.answer;
     let c = past.answer;
@@ -50,20 +49,21 @@ fn print_same(single: Filled, before: Filled, past: Filled) {
     let all = entries(c) as usize;
     if 0 < here {
         let first = single.run[0];
-        print_word(b" left");
-        print_count(first.left as u64);
+        print_word(rt, b" left")?;
+        print_count(rt, first.left as u64)?;
     }
     if from + here != all {
-        print_word(b" counts differ");
+        print_word(rt, b" counts differ")?;
     } else if stand_at(single, here, past, from) {
-        print_word(b" same");
+        print_word(rt, b" same")?;
     } else {
-        print_word(b" entries differ");
+        print_word(rt, b" entries differ")?;
     }
+    Ok(())
 }
 
 // The three calls.
-fn at_place(cat: &[u8], place: u32, work: &mut [u32]) {
+fn at_place(rt: &impl Print, cat: &[u8], place: u32, work: &mut [u32]) -> io::Result<()> {
     soil(work);
     let single = list_filled(cat, place, 1, RUN_BOUND, work);
     soil(work);
@@ -71,32 +71,47 @@ fn at_place(cat: &[u8], place: u32, work: &mut [u32]) {
     soil(work);
     let past = list_filled(cat, 0, place % 65536 + 1, RUN_BOUND, work);
     let answer = single.answer;
-    print_listed(answer);
-    print_same(single, before, past);
+    print_listed(rt, answer)?;
+    print_same(rt, &single, &before, &past)
 }
 
 // The calls on the first n bytes.
-fn at_front(bytes: &[u8], n: usize, place: u32, work: &mut [u32]) {
+fn at_front(
+    rt: &impl Print,
+    bytes: &[u8],
+    n: usize,
+    place: u32,
+    work: &mut [u32],
+) -> io::Result<()> {
     if n <= bytes.len() {
-        at_place(&bytes[..n], place, work);
+        at_place(rt, &bytes[..n], place, work)?;
     }
+    Ok(())
 }
 
 // The calls at a place, on a line, on a catalogue of n columns in which a set has entries: as a key, or for columns.
-fn trial(bytes: &mut [u8], n: u32, place: u32, set: ColumnSet, twice: bool, work: &mut [u32]) {
-    print_word(b"columns");
-    print_count(n as u64);
+fn trial(
+    rt: &impl Print,
+    bytes: &mut [u8],
+    n: u32,
+    place: u32,
+    set: ColumnSet,
+    twice: bool,
+    work: &mut [u32],
+) -> io::Result<()> {
+    print_word(rt, b"columns")?;
+    print_count(rt, n as u64)?;
     if twice {
-        print_word(b" determinant");
+        print_word(rt, b" determinant")?;
     } else {
-        print_word(b" key");
+        print_word(rt, b" key")?;
     }
-    print_count(set.bits as u64);
-    print_word(b" place");
-    print_count(place as u64);
+    print_count(rt, set.bits as u64)?;
+    print_word(rt, b" place")?;
+    print_count(rt, place as u64)?;
     let size = keyed(bytes, n, set, twice);
-    at_front(bytes, size, place, work);
-    end();
+    at_front(rt, bytes, size, place, work)?;
+    end(rt)
 }
 
 // Is the place tried? Every one of fewer than 16 columns. Of 16, those in the middle and the first and the last of each
@@ -121,32 +136,39 @@ fn is_tried(n: u32, place: u32, set: ColumnSet) -> bool {
 
 // A place that is tried, on the catalogues in which its set has entries, and on one for all places: there columns 0, 2
 // and 4 are a key, and each other column.
-fn visit(bytes: &mut [u8], n: u32, place: u32, set: ColumnSet, work: &mut [u32]) {
+fn visit(
+    rt: &impl Print,
+    bytes: &mut [u8],
+    n: u32,
+    place: u32,
+    set: ColumnSet,
+    work: &mut [u32],
+) -> io::Result<()> {
     if is_tried(n, place, set) {
-        trial(bytes, n, place, set, false, work);
-        trial(bytes, n, place, set, true, work);
-        trial(bytes, n, place, ColumnSet { bits: 21 }, false, work);
+        trial(rt, bytes, n, place, set, false, work)?;
+        trial(rt, bytes, n, place, set, true, work)?;
+        trial(rt, bytes, n, place, ColumnSet { bits: 21 }, false, work)?;
     }
+    Ok(())
 }
 
 // The places of n columns, from set to set.
-fn places(bytes: &mut [u8], n: u32, work: &mut [u32]) {
+fn places(rt: &impl Print, bytes: &mut [u8], n: u32, work: &mut [u32]) -> io::Result<()> {
     let mut set = ColumnSet::EMPTY;
-    let mut place: u32 = 0;
-    while place < 65536 {
-        visit(bytes, n, place, set, work);
-        place += 1;
+    for place in 0..65536 {
+        visit(rt, bytes, n, place, set, work)?;
         match set.next(n) {
             SetOrNone::Set(s) => set = s,
-            SetOrNone::Nothing => return,
+            SetOrNone::Nothing => return Ok(()),
         }
     }
+    Ok(())
 }
 
 // 6 and 16 columns.
-pub fn trial_places() {
+pub fn trial_places(rt: &impl Print) -> io::Result<()> {
     let mut bytes = [0u8; 4096];
     let mut work = [0u32; 16384];
-    places(&mut bytes, 6, &mut work);
-    places(&mut bytes, 16, &mut work);
+    places(rt, &mut bytes, 6, &mut work)?;
+    places(rt, &mut bytes, 16, &mut work)
 }

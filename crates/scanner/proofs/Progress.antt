@@ -14,7 +14,8 @@ use Rattle.model.specs.Bytes.{byte_at}
 use Rattle.model.specs.Bounds.{missing}
 use Rattle.model.specs.First.{first_from}
 use Rattle.model.specs.Xml.{is_white, is_quote, column_letter, equals}
-use Rattle.model.specs.Form.{is_digit, number_in, skip, digits_end, expect, numeral_at, quoted_at, attribute_at, is_attribute}
+use Rattle.model.specs.Form.{is_digit, number_in, skip, digits_end, expect, numeral_at, quoted_at}
+use Rattle.model.specs.Form.{attribute_at, is_attribute}
 use Rattle.model.proofs.Truth.{is_true, true_is, and_is}
 use Rattle.model.proofs.First.{first_from_is}
 use Rattle.readers.specs.Stands.{GoesOn}
@@ -68,7 +69,8 @@ module _ (s : List ℕ) where
   unfolding numeral_at
   numeral_on p {r} e n = let d = digits_on p a.0 in (end, (omega (arith, end), omega (arith, end)))
     where
-      a : (digits_end s p ≡ p → ⊥) × (if_eq (byte_at s p) 48 (if_eq (digits_end s p) (p + 1) (p + 1) 0) (digits_end s p) ≡ r)
+      a : (digits_end s p ≡ p → ⊥)
+          × (if_eq (byte_at s p) 48 (if_eq (digits_end s p) (p + 1) (p + 1) 0) (digits_end s p) ≡ r)
       a = if_ne_read (digits_end s p) p _ e n
 
       at : Dec (byte_at s p ≡ 48) → digits_end s p ≡ r

@@ -142,7 +142,8 @@ module _ (c above table : ℕ) where
       at (yes e) =
           ap rows_bytes (if_eq_yes _ e)
           ∙ ap₂ ◌++◌ (sym (row_is c table (up_of table seen) n cells e))
-          (ap (λ (k : ℕ). rows_bytes (rows_from c above table k ts)) (sym (if_eq_yes (if_eq n above (suc seen) seen) e)))
+          (ap (λ (k : ℕ). rows_bytes (rows_from c above table k ts))
+          (sym (if_eq_yes (if_eq n above (suc seen) seen) e)))
       at (no d) =
           ap rows_bytes (if_eq_no _ d)
           ∙ ap₂ ◌++◌ (sym (if_eq_no (row_of (up_of table seen) (codes_from c 0 cells)) d))

@@ -10,7 +10,8 @@ use lib.Seq.{sets}
 use Rattle.model.specs.Bounds.{table_bound, row_bound}
 use Rattle.model.specs.Bytes.{bytes2, bytes4}
 use Rattle.model.specs.Catalogue.{tables, columns, parent}
-use Rattle.model.specs.Encode.{head_of, codes_of, trailer_of, rows_bytes, table_bytes, tables_bytes, starts_from, encode}
+use Rattle.model.specs.Encode.{head_of, codes_of, trailer_of, rows_bytes, table_bytes, tables_bytes}
+use Rattle.model.specs.Encode.{starts_from, encode}
 use Rattle.model.specs.Convert.{Tag, tags_in, count_of, rows_from, table_from, contents_from, converted}
 use Rattle.tags.specs.Counts.{Counts}
 use Rattle.encoding.specs.Sizes.{size_of}
@@ -58,7 +59,8 @@ module _ (shape : List ℕ) (ts : List Tag) (t : ℕ) {c above : ℕ} (wide : c 
     rows_room m count h e = omega (arith, table_long, put_length l m (head_of c above count) at e)
 
     pub table_put : (m n : List ℕ) (r count : ℕ) → count ≡ count_of t ts → m ≡ sets l at (head_of c above count)
-        → Put m (at + 6) (rows_bytes (rows_from c above t 0 ts)) n r → Put l at (table_bytes (table_from shape ts t)) n r
+        → Put m (at + 6) (rows_bytes (rows_from c above t 0 ts)) n r
+        → Put l at (table_bytes (table_from shape ts t)) n r
     table_put m n r count e f p =
         record {
           written = puts_both l m n (head_of c above count) (rows_bytes (rows_from c above t 0 ts)) at (at + 6) f

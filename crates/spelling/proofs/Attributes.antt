@@ -14,7 +14,8 @@ use Rattle.model.proofs.Truth.{is_true, true_is, and_is, or_is, not_is, eqb_is}
 use Rattle.model.specs.Bounds.{missing}
 use Rattle.model.specs.Bytes.{byte_at}
 use Rattle.model.specs.Forest.{Cells}
-use Rattle.model.specs.Form.{is_digit, number_in, next, many, skip, expect, numeral_at, quoted_at, attribute_at, is_attribute}
+use Rattle.model.specs.Form.{is_digit, number_in, next, many, skip, expect, numeral_at, quoted_at}
+use Rattle.model.specs.Form.{attribute_at, is_attribute}
 use Rattle.model.specs.Text.{decimal}
 use Rattle.model.specs.Xml.{is_white, White, is_quote, column_letter, equals, Attribute, attribute}
 use Rattle.numerals.proofs.Words.{white_no_digit, quote_no_digit}

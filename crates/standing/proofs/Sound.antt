@@ -137,7 +137,8 @@ module _ (shape : List ℕ) (t c total : ℕ) where
       let first = times_append a before (n ∷ []) in
       let rest = times_append a before (n ∷ tables_in inside) in
       each_append (Within total) (row_for c t up (n, cs))
-      (rows_in c t inside (times n before) (before ++ (n ∷ [])) ++ rows_in c t after up (before ++ (n ∷ tables_in inside)))
+      (rows_in c t inside (times n before) (before ++ (n ∷ []))
+      ++ rows_in c t after up (before ++ (n ∷ tables_in inside)))
       (own_within c t up total n cs (λ s. let k = h (ap (parent shape) (sym s) ∙ fits.1.0) in omega arith))
       (each_append (Within total) (rows_in c t inside (times n before) (before ++ (n ∷ [])))
       (rows_in c t after up (before ++ (n ∷ tables_in inside)))
@@ -193,9 +194,11 @@ module _ (shape : List ℕ) (ok : Accepted shape) (f : Forest) (fits : Fits shap
         each_at Code 0 (get_or (rows_of shape f t) k (0, [])).1
         (each_at Coded (0, []) (rows_of shape f t) (forest_small small) k l) i (omega (arith, codes_at k l))
 
-    pub root_at : t ≡ 0 → (k : ℕ) → k < length (rows_of shape f t) → (get_or (rows_of shape f t) k (0, [])).0 ≡ no_parent
+    pub root_at : t ≡ 0 → (k : ℕ) → k < length (rows_of shape f t)
+        → (get_or (rows_of shape f t) k (0, [])).0 ≡ no_parent
     root_at z = each_at Parentless (0, []) (rows_of shape f t) (forest_root z)
 
     pub parent_at : 0 < t → (k : ℕ) → k < length (rows_of shape f t)
         → (get_or (rows_of shape f t) k (0, [])).0 < count_of (parent shape t) (tags_of f)
-    parent_at h = each_at (Within (count_of (parent shape t) (tags_of f))) (0, []) (rows_of shape f t) (forest_parents h)
+    parent_at h = each_at (Within (count_of (parent shape t) (tags_of f))) (0, []) (rows_of shape f t)
+        (forest_parents h)

@@ -11,7 +11,8 @@ use Rattle.model.specs.Bounds.{no_parent}
 use Rattle.model.specs.Catalogue.{tables, columns, parent}
 use Rattle.model.specs.Check.{Accepted}
 use Rattle.model.specs.Encode.{content}
-use Rattle.model.specs.Forest.{Cells, Forest, none, tree, FitsIn, Fits, times, tables_in, rows_in, contents_in, contents_of}
+use Rattle.model.specs.Forest.{Cells, Forest, none, tree, FitsIn, Fits, times, tables_in, rows_in}
+use Rattle.model.specs.Forest.{contents_in, contents_of}
 use Rattle.model.specs.Convert.{Tag, count_of, rows_from, table_from, contents_from}
 use Rattle.model.proofs.Check.{accepted_tables, accepted_parent, accepted_root}
 use Rattle.standing.specs.Tags.{tags_of, rows_of, up_of}

@@ -20,7 +20,8 @@ unfolding one_more
 set_length counts n = length-set counts n (suc (get_or counts n 0))
 
 -- a count of a table after one more row
-more_same : (counts : List ℕ) (n t : ℕ) → t < length counts → n ≡ t → get_or (one_more n counts) t 0 ≡ get_or counts t 0 + 1
+more_same : (counts : List ℕ) (n t : ℕ) → t < length counts → n ≡ t
+    → get_or (one_more n counts) t 0 ≡ get_or counts t 0 + 1
 unfolding one_more
 more_same counts n t l e =
     subst (λ (m : ℕ). get_or (set counts m (suc (get_or counts m 0))) t 0 ≡ get_or counts t 0 + 1) (sym e)

@@ -28,7 +28,8 @@ from_byte s i l =
     let a : drop i s ≡ byte_at s i ∷ drop (i + 1) s = rw add-one (drop-cons s i 0 l) in
     let m : i + 1 + 0 ≡ i + 1 = omega arith in
     let n : i + 1 + 1 ≡ i + 2 = omega arith in
-    let b : get_or (drop (i + 1) s) 0 0 ≡ byte_at s (i + 1) = get_or-drop (i + 1) s 0 0 ∙ ap (λ (k : ℕ). byte_at s k) m in
+    let b : get_or (drop (i + 1) s) 0 0 ≡ byte_at s (i + 1) =
+    get_or-drop (i + 1) s 0 0 ∙ ap (λ (k : ℕ). byte_at s k) m in
     let d : drop 1 (drop (i + 1) s) ≡ drop (i + 2) s = drop-drop 1 (i + 1) s ∙ ap (λ (k : ℕ). drop k s) n in
     ap tags_in a
     ∙ (ap (λ (x : ℕ). pick (eqb (byte_at s i) less && eqb x row_letter)

@@ -1,2 +1,3 @@
-pub mod Puts
 pub mod Decimal
+pub mod Fronts
+pub mod Puts

@@ -1,15 +1,19 @@
 // Not for callers: what the programs print: words, decimal numbers and entries, put into lent bytes at a position and
-// written to standard output in one go. Each answers the position behind what it put; what does not fit is left out.
-// Relies on the types of `model` and on `io` for digits. Called by the programs, and by `page_lines` and `pages`.
+// written to a writer in one go. Each answers the position behind what it put; what does not fit is left out.
+// Relies on the types of `model` and on `itoa` for digits. Called by the programs, and by `page_lines` and `pages`.
 #![tactic(auto)]
 
-ghost use Rattle.std.specs.Prelude.{◌≡◌, [], ◌∷◌, length};
+ghost use Rattle.std.specs.Prelude.{◌≡◌, [], ◌∷◌, length, IfOk, OnOk, OnErr};
+ghost use Rattle.std.specs.Io.KnownBytes.{Appends};
 ghost use Rattle.columns.specs.Test.{if_le};
 ghost use Rattle.model.specs.Text.{decimal, right_text, entry_text};
 ghost use Rattle.text.specs.Puts.{Puts};
+ghost use Rattle.text.specs.Written.{AppendsFirst, front};
 
-use libc::STDOUT_FILENO;
+use itoa::Buffer;
 use model::{Entry, ROW};
+use std::io;
+use std::io::{ErrorKind, Write};
 
 // A byte.
 pub fn put_byte(out: &mut [u8], at: usize, x: u8) -> usize
@@ -27,10 +31,8 @@ pub fn put_word(out: &mut [u8], at: usize, word: &[u8]) -> usize
     ensures { Puts word.now at out.old out.new result }
 {
     let mut next = at;
-    let mut i = 0;
-    while i < word.len() {
-        next = put_byte(out, next, word[i]);
-        i += 1;
+    for x in word {
+        next = put_byte(out, next, *x);
     }
     next
 }
@@ -39,9 +41,8 @@ pub fn put_word(out: &mut [u8], at: usize, word: &[u8]) -> usize
 pub fn put_number(out: &mut [u8], at: usize, x: u64) -> usize
     ensures { Puts (decimal x) at out.old out.new result }
 {
-    let mut digits = [0u8; 20];
-    let k = io::decimal(x, &mut digits);
-    put_word(out, at, &digits[..k])
+    let mut digits = Buffer::new();
+    put_word(out, at, digits.format(x).as_bytes())
 }
 
 // The right side of an entry: its number, or `row`.
@@ -65,26 +66,32 @@ pub fn put_entry(out: &mut [u8], at: usize, e: Entry) -> usize
     put_right(out, next, e.right)
 }
 
-// What was handed to standard output: how many bytes, and whether all of them were taken.
-#[derive(Clone, Copy)]
-pub struct Written {
-    pub bytes: usize,
-    pub taken: bool,
+// Writes all of the bytes. After an error the writer has taken some of them, from the first on.
+fn write_all<W: Write>(to: &mut W, bytes: &[u8]) -> io::Result<()>
+    ensures whole { OnOk result (Appends (W.contents to.old) (W.contents to.new) bytes.now) }
+    ensures torn { OnErr result (AppendsFirst (W.contents to.old) (W.contents to.new) bytes.now) }
+{
+    let mut done = 0;
+    while done < bytes.len() {
+        let taken = to.write(&bytes[done..])?;
+        if taken == 0 {
+            return Err(io::Error::from(ErrorKind::WriteZero));
+        }
+        done += taken;
+    }
+    Ok(())
 }
 
-// Writes the first n bytes to standard output: none where there are fewer.
-pub fn write(out: &[u8], n: usize) -> Written
-    ensures { result.bytes ≡ if_le n (length out.now) n 0 }
+// Writes the first n bytes, and answers how many those are: none where there are fewer. After an error the writer has
+// taken some of them, from the first on.
+pub fn write<W: Write>(to: &mut W, out: &[u8], n: usize) -> io::Result<usize>
+    ensures count { IfOk result (λ bytes. bytes ≡ if_le n (length out.now) n 0) }
+    ensures whole { OnOk result (Appends (W.contents to.old) (W.contents to.new) (front n out.now)) }
+    ensures torn { OnErr result (AppendsFirst (W.contents to.old) (W.contents to.new) (front n out.now)) }
 {
     if n <= out.len() {
-        let taken = io::write_all(STDOUT_FILENO, &out[..n]);
-        return Written {
-            bytes: n,
-            taken: taken,
-        };
+        write_all(to, &out[..n])?;
+        return Ok(n);
     }
-    Written {
-        bytes: 0,
-        taken: false,
-    }
+    Ok(0)
 }

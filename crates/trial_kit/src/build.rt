@@ -31,11 +31,9 @@ fn offset(at: usize) -> u32 {
 fn codes(b: &mut [u8], at: usize, n: u32, first: u32) -> usize {
     let mut next = at;
     let mut code = first;
-    let mut k = 0;
-    while k < n {
+    for _ in 0..n {
         next = put4(b, next, code);
         code = 5;
-        k += 1;
     }
     next
 }
@@ -46,13 +44,11 @@ fn table(b: &mut [u8], at: usize, n: u32, parent: u32, r: u32, distinct: bool) -
     let mut next = put2(b, at, n);
     next = put2(b, next, parent);
     next = put2(b, next, r);
-    let mut k = 0;
-    while k < r {
+    for k in 0..r {
         let up = if parent == 65535 { parent } else { k };
         next = put2(b, next, up);
         let first = if distinct { k } else { 5 };
         next = codes(b, next, n, first);
-        k += 1;
     }
     next
 }
@@ -89,11 +85,9 @@ pub fn recode(b: &mut [u8], row: u32, code: u32) {
 // A row of n columns, with the code 0 in the members of a set, and another in the others.
 fn coded(b: &mut [u8], at: usize, n: u32, set: ColumnSet, own: u32) -> usize {
     let mut next = put2(b, at, 65535);
-    let mut k = 0;
-    while k < n {
+    for k in 0..n {
         let code = if set.member(k) { 0 } else { own };
         next = put4(b, next, code);
-        k += 1;
     }
     next
 }
@@ -126,10 +120,8 @@ pub fn keyed(b: &mut [u8], n: u32, set: ColumnSet, twice: bool) -> usize {
     let rows = if twice { 2 * count } else { count };
     next = put2(b, next, rows);
     next = marked(b, next, n, set, twice);
-    let mut k = 0;
-    while k < n {
+    for k in 0..n {
         next = spared(b, next, n, set, k, twice);
-        k += 1;
     }
     lone(b, next)
 }
@@ -146,10 +138,8 @@ pub fn two(b: &mut [u8], first: u32, second: u32) -> usize {
 // So many tables of one column and r rows, each under the one before; the root's column is a key.
 pub fn deep(b: &mut [u8], tables: u32, r: u32) -> usize {
     let mut next = table(b, 0, 1, 65535, r, true);
-    let mut i: u32 = 1;
-    while i < tables {
+    for i in 1..tables {
         next = table(b, next, 1, i - 1, r, false);
-        i += 1;
     }
     let start = next;
     next = offsets(b, next, tables, 6 + 6 * (r % 65536));
@@ -160,11 +150,9 @@ pub fn deep(b: &mut [u8], tables: u32, r: u32) -> usize {
 fn offsets(b: &mut [u8], at: usize, tables: u32, apart: u32) -> usize {
     let mut next = at;
     let mut o: u32 = 0;
-    let mut i: u32 = 0;
-    while i < tables {
+    for _ in 0..tables {
         next = put4(b, next, o);
         o = (o + apart % 16777216) % 16777216;
-        i += 1;
     }
     next
 }

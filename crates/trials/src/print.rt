@@ -2,8 +2,9 @@
 // have, or the refusal; then how many records of the run are not zero (an entry 0 0 0 is), how many work words are 0,
 // and the entries. All work words are 7 and all records are zero before the call, and there is one work word more
 // than is ever lent.
-use listing::{Filled, RUN_BOUND, list_filled};
+use listing::{Filled, list_filled};
 use model::Entry;
+use std::io;
 use trial_kit::{
     end, entries, print_count, print_entry, print_listed, print_word, print_zeros, soil,
 };
@@ -20,31 +21,22 @@ fn is_zero(e: Entry) -> bool {
 }
 
 // How many records of the run are not zero, on the line.
-fn print_touched(filled: Filled) {
-    let mut n: u64 = 0;
-    let mut i: usize = 0;
-    while i < RUN_BOUND {
-        let e = filled.run[i];
-        if !is_zero(e) {
+fn print_touched(rt: &impl Print, filled: &Filled) -> io::Result<()> {
+    let mut n: usize = 0;
+    for e in &filled.run {
+        if !is_zero(*e) {
             n += 1;
         }
-        i += 1;
     }
-    print_count(n);
+    print_count(rt, n as u64)
 }
 
 // The first entries of the run, on the line.
-fn print_entries(filled: Filled, count: u32) {
-    let n = count as usize;
-    let mut i: usize = 0;
-    while i < RUN_BOUND {
-        if i == n {
-            return;
-        }
-        let e = filled.run[i];
-        print_entry(e);
-        i += 1;
+fn print_entries(rt: &impl Print, filled: &Filled, count: u32) -> io::Result<()> {
+    for e in filled.run.iter().take(count as usize) {
+        print_entry(rt, *e)?;
     }
+    Ok(())
 }
 
 // The call on so many of the work words.
@@ -63,6 +55,7 @@ fn list_front(
 }
 
 fn on_words(
+    rt: &impl Print,
     name: &[u8],
     cat: &[u8],
     place: u32,
@@ -70,26 +63,41 @@ fn on_words(
     room: usize,
     words: usize,
     work: &mut [u32],
-) {
+) -> io::Result<()> {
     soil(work);
     let filled = list_front(cat, place, budget, room, words, work);
     let answer = filled.answer;
-    print_word(name);
-    print_listed(answer);
-    print_word(b" records");
-    print_touched(filled);
-    print_word(b" zeros");
-    print_zeros(work);
-    print_entries(filled, entries(answer));
-    end();
+    print_word(rt, name)?;
+    print_listed(rt, answer)?;
+    print_word(rt, b" records")?;
+    print_touched(rt, &filled)?;
+    print_word(rt, b" zeros")?;
+    print_zeros(rt, work)?;
+    print_entries(rt, &filled, entries(answer))?;
+    end(rt)
 }
 
-pub fn trial_on(name: &[u8], cat: &[u8], place: u32, budget: u32, room: usize, words: usize) {
+pub fn trial_on(
+    rt: &impl Print,
+    name: &[u8],
+    cat: &[u8],
+    place: u32,
+    budget: u32,
+    room: usize,
+    words: usize,
+) -> io::Result<()> {
     let mut work = [0u32; 16385];
-    on_words(name, cat, place, budget, room, words, &mut work);
+    on_words(rt, name, cat, place, budget, room, words, &mut work)
 }
 
 // The same on as many work words as a call needs.
-pub fn trial(name: &[u8], cat: &[u8], place: u32, budget: u32, room: usize) {
-    trial_on(name, cat, place, budget, room, 16384);
+pub fn trial(
+    rt: &impl Print,
+    name: &[u8],
+    cat: &[u8],
+    place: u32,
+    budget: u32,
+    room: usize,
+) -> io::Result<()> {
+    trial_on(rt, name, cat, place, budget, room, 16384)
 }

@@ -1,6 +1,7 @@
 // Listings of the album in steps: what the calls join, compared with the listing at one go.
 use listing::{Filled, RUN_BOUND, list_filled};
 use model::{Entry, ListAnswer};
+use std::io;
 use trial_kit::{ALBUM, end, print_count, print_word, soil};
 
 // The album's sets, and its last place.
@@ -32,17 +33,10 @@ fn put(joined: &mut [u32], n: usize, e: Entry) -> usize {
 }
 
 // Joins the first entries of a run behind n.
-fn join(joined: &mut [u32], n: usize, filled: Filled, count: u32) -> usize {
-    let k = count as usize;
+fn join(joined: &mut [u32], n: usize, filled: &Filled, count: u32) -> usize {
     let mut next = n;
-    let mut i: usize = 0;
-    while i < RUN_BOUND {
-        if i == k {
-            return next;
-        }
-        let e = filled.run[i];
-        next = put(joined, next, e);
-        i += 1;
+    for e in filled.run.iter().take(count as usize) {
+        next = put(joined, next, *e);
     }
     next
 }
@@ -77,7 +71,7 @@ fn list_in_steps(
                         refusal: 0,
                     };
                 }
-                n = join(joined, n, filled, count);
+                n = join(joined, n, &filled, count);
                 held = place;
                 calls += 1;
             }
@@ -101,72 +95,73 @@ fn list_in_steps(
 
 // The first index at which two lists of codes differ; their length, if none does.
 fn first_difference(a: &[u32; 8], b: &[u32; 8]) -> usize {
-    let mut i: usize = 0;
-    while i < 8 {
+    for i in 0..8 {
         if a[i] != b[i] {
             return i;
         }
-        i += 1;
     }
     8
 }
 
 // What came of it, on the line: how many calls, and whether what is joined is the same; or the refusal and where.
-fn print_joined(j: Joined, whole: usize, difference: usize) {
-    print_word(b": calls");
-    print_count(j.calls as u64);
+fn print_joined(rt: &impl Print, j: Joined, whole: usize, difference: usize) -> io::Result<()> {
+    print_word(rt, b": calls")?;
+    print_count(rt, j.calls as u64)?;
     if j.refusal != 0 {
-        print_word(b" refused");
-        print_count(j.refusal as u64);
-        print_word(b" at place");
-        print_count(j.place as u64);
+        print_word(rt, b" refused")?;
+        print_count(rt, j.refusal as u64)?;
+        print_word(rt, b" at place")?;
+        print_count(rt, j.place as u64)?;
     } else if j.place != LAST {
-        print_word(b" stuck at place");
-        print_count(j.place as u64);
+        print_word(rt, b" stuck at place")?;
+        print_count(rt, j.place as u64)?;
     } else if j.entries != whole {
-        print_word(b" entries");
-        print_count(j.entries as u64);
+        print_word(rt, b" entries")?;
+        print_count(rt, j.entries as u64)?;
     } else if difference < 8 {
-        print_word(b" differs at entry");
-        print_count(difference as u64);
+        print_word(rt, b" differs at entry")?;
+        print_count(rt, difference as u64)?;
     } else {
-        print_word(b" same");
+        print_word(rt, b" same")?;
     }
-    end();
+    end(rt)
 }
 
 // A listing in steps of one budget and one run, against the listing at one go.
-fn compare(budget: u32, room: usize, work: &mut [u32]) {
+fn compare(rt: &impl Print, budget: u32, room: usize, work: &mut [u32]) -> io::Result<()> {
     let mut whole = [0u32; 8];
     let mut joined = [0u32; 8];
     let at_once = list_in_steps(&ALBUM, LAST, RUN_BOUND, &mut whole, work);
     let in_steps = list_in_steps(&ALBUM, budget, room, &mut joined, work);
-    print_word(b"budget");
-    print_count(budget as u64);
-    print_word(b" run");
-    print_count(room as u64);
-    print_joined(in_steps, at_once.entries, first_difference(&whole, &joined));
+    print_word(rt, b"budget")?;
+    print_count(rt, budget as u64)?;
+    print_word(rt, b" run")?;
+    print_count(rt, room as u64)?;
+    print_joined(
+        rt,
+        in_steps,
+        at_once.entries,
+        first_difference(&whole, &joined),
+    )
 }
 
 // Runs of 0 to 4 records.
-fn runs(budget: u32, work: &mut [u32]) {
-    let mut room: usize = 0;
-    while room <= 4 {
-        compare(budget, room, work);
-        room += 1;
+fn runs(rt: &impl Print, budget: u32, work: &mut [u32]) -> io::Result<()> {
+    for room in 0..=4 {
+        compare(rt, budget, room, work)?;
     }
+    Ok(())
 }
 
 // Every budget from 1 to the number of sets.
-fn budgets(work: &mut [u32]) {
-    let mut budget: u32 = 1;
-    while budget <= LAST {
-        runs(budget, work);
-        budget += 1;
+fn budgets(rt: &impl Print, work: &mut [u32]) -> io::Result<()> {
+    for budget in 1..=LAST {
+        runs(rt, budget, work)?;
     }
+    Ok(())
 }
 
-pub fn trial_steps() {
+pub fn trial_steps(rt: &impl Print) -> io::Result<()> {
     let mut work = [0u32; 16384];
-    budgets(&mut work);
+    budgets(rt, &mut work)
 }

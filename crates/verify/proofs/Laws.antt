@@ -35,7 +35,8 @@ use Rattle.coverage.specs.Covered.{TargetCovered}
 use Rattle.verify.specs.Judged.{judged_meaning}
 
 -- the records that are held are the whole ones
-pub held_from : (bytes : List ℕ) {count : ℕ} → count ≡ record_count bytes → records_from bytes count 0 ≡ records_held bytes
+pub held_from : (bytes : List ℕ) {count : ℕ} → count ≡ record_count bytes
+    → records_from bytes count 0 ≡ records_held bytes
 unfolding records_held
 held_from bytes e = ap (λ (n : ℕ). records_from bytes n 0) e
 
@@ -126,7 +127,8 @@ module _ (cat : List ℕ) (es : List Entry) (bytes : List ℕ) where
   refused_19 fine sound none =
       let is = failed (are_covered_sets cat es (records_held bytes)) (number UncoveredSet)
       (covered_sets_is es (records_held bytes) cat) none in
-      reply_refused values (sym is ∙ sym (or_else_next _ (no_18 sound)) ∙ sym (or_else_next _ (no_17 fine))) (omega arith)
+      reply_refused values (sym is ∙ sym (or_else_next _ (no_18 sound)) ∙ sym (or_else_next _ (no_17 fine)))
+      (omega arith)
 
   pub accepted : TrueRecords cat bytes → SoundEntries cat es → CoveredSets cat es (records_held bytes)
       → answered values ≡ judged_meaning cat es bytes
@@ -143,7 +145,8 @@ unfolding record_count
 count_is bytes = refl
 
 pub covered_held : (cat : List ℕ) (es : List Entry) (bytes : List ℕ)
-    → CoveredSets cat es (records_from bytes (length bytes / evidence_bytes) 0) ↔ CoveredSets cat es (records_held bytes)
+    → CoveredSets cat es (records_from bytes (length bytes / evidence_bytes) 0)
+    ↔ CoveredSets cat es (records_held bytes)
 covered_held cat es bytes =
     let same = held_from bytes (count_is bytes) in
     (subst (CoveredSets cat es) same, subst (CoveredSets cat es) (sym same))
@@ -157,7 +160,8 @@ accepted_from cat file bytes count first fine sound covered =
     ∙ accepted cat (entries_from file count first) bytes fine sound covered
 
 -- the entries that are held stand where the trailer says
-entries_held_lem : (file : List ℕ) → entries_from file (count_in file) (length file - distance_in file) ≡ entries_held file
+entries_held_lem : (file : List ℕ)
+    → entries_from file (count_in file) (length file - distance_in file) ≡ entries_held file
 unfolding entries_held
 entries_held_lem file = refl
 

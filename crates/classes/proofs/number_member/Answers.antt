@@ -19,9 +19,9 @@ number_row-count-requires c =
 
 pub returns-then-count-eq0 : goal.returns-then-count-eq0
 returns-then-count-eq0 c = record {
-      only_member = only_then c.loop-q.invariant.1 c.number_row-count.ensures.only_member;
-      member_numbered = inl refl;
-    }
+  only_member = only_then c.loop-q.invariant.1 c.number_row-count.ensures.only_member;
+  member_numbered = inl refl;
+}
 
 pub loop-q-preserved : goal.loop-q-preserved
 loop-q-preserved c =

@@ -57,7 +57,8 @@ returns-then-full-ne0 c =
     let n = c.if-full-ne0.true in
     let e = convert_second a.shape.now a.text.now (length a.out.now) fit
     c.full_code-full.ensures in record {
-      result_value = reply_refused _ (c.refusal-then-full-ne0.ensures ∙ e) (λ z. n (sym c.refusal-then-full-ne0.ensures ∙ z));
+      result_value = reply_refused _ (c.refusal-then-full-ne0.ensures ∙ e)
+          (λ z. n (sym c.refusal-then-full-ne0.ensures ∙ z));
       out_after = output_kept _ _ _ (λ z. n (e ∙ z));
     }
 

@@ -7,7 +7,8 @@ use Rattle.grounds.proofs.First.{NoneBelow}
 use Rattle.convert.proofs.rows_code.Given as goal
 
 abbrev pub invariant-loop-table : goal.invariant-loop-table
-invariant-loop-table l = NoneBelow (tables l.shape) l.table (empty_code l.shape) × (l.n ≡ tables l.shape) × (l.table ≤ l.n)
+invariant-loop-table l = NoneBelow (tables l.shape) l.table (empty_code l.shape) × (l.n ≡ tables l.shape)
+    × (l.table ≤ l.n)
 
 abbrev pub decreases-loop-table : goal.decreases-loop-table
 decreases-loop-table l = l.n - l.table

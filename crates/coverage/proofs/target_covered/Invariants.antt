@@ -8,7 +8,8 @@ use Rattle.coverage.specs.Covered.{RightCovered}
 use Rattle.coverage.proofs.target_covered.Given as goal
 
 abbrev pub invariant-loop-a : goal.invariant-loop-a
-invariant-loop-a l = Passed (RightCovered (view l.cat l.target) (entries_from l.list l.count l.first) (records_from l.bytes l.records 0) l.target l.n) l.initial.a l.n l.a
+invariant-loop-a l = Passed (RightCovered (view l.cat l.target) (entries_from l.list l.count l.first)
+    (records_from l.bytes l.records 0) l.target l.n) l.initial.a l.n l.a
 
 abbrev pub decreases-loop-a : goal.decreases-loop-a
 decreases-loop-a l = l.n + 1 - l.a

@@ -1,7 +1,7 @@
 -- The answers of `marks::all_covered`.
 use mathlib.Core.Path.{ap}
 use mathlib.Core.Bool.{not}
-use Prim.Native.Nat.{ℕ, ◌-◌}
+use Prim.Native.Nat.{ℕ}
 use native.Mathlib.Omega.{arith}
 use lib.Pow.{pow_mono}
 use Rattle.filled.proofs.Below.{below_more}
@@ -14,10 +14,9 @@ loop-x-init c = (omega arith, λ q l. absurd (omega arith))
 
 pub is_covered-requires : goal.is_covered-requires
 is_covered-requires c =
-    let s = c in
-    let h = pow_mono {i = s.args.n} {j = s.args.m} (omega arith) in
+    let h = pow_mono {i = c.args.n} {j = c.args.m} (omega arith) in
     let e = c.power-end.ensures in
-    (s.requires.0, s.requires.1, s.requires.2, s.requires.3, omega arith, omega arith)
+    (c.requires.0, c.requires.1, c.requires.2, c.requires.3, omega arith, omega arith)
 
 pub returns-then-not-is_covered : goal.returns-then-not-is_covered
 returns-then-not-is_covered c =
@@ -29,11 +28,10 @@ loop-x-smaller c = omega arith
 
 pub loop-x-preserved : goal.loop-x-preserved
 loop-x-preserved c =
-    let s = c in
     let x = c.loop-x.x in
     let Covers : ℕ → Type 0 =
-    CoveredBy s.args.backed.now s.args.keys.now s.args.lefts.now s.args.sets.now s.args.m
-    s.args.a in (
+    CoveredBy c.args.backed.now c.args.keys.now c.args.lefts.now c.args.sets.now c.args.m
+    c.args.a in (
       omega arith,
       below_more {P = Covers} c.loop-x.invariant.1
           (said_yes {P = Covers x} c.is_covered.ensures (ap not c.if-not-is_covered.false)),

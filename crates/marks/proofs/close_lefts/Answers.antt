@@ -7,17 +7,15 @@ use Rattle.marks.proofs.close_lefts.Goals as goal
 
 pub mark_lefts-requires : goal.mark_lefts-requires
 mark_lefts-requires c =
-    let s = c in (blank_room s.args.m (omega arith) (omega arith), omega arith, s.requires.2)
+    (blank_room c.args.m (omega arith) (omega arith), omega arith, c.requires.2)
 
 pub fill-requires : goal.fill-requires
 fill-requires c =
-    let s = c in
-    let r = s.requires.0 in
-    let h = seed_words_small s.args.m r.few in
+    let r = c.requires.0 in
+    let h = seed_words_small c.args.m r.few in
     (omega arith, omega arith, omega arith, omega arith, omega arith)
 
 pub returns : goal.returns
 returns c =
-    let s = c in
-    lefts_closed _ _ _ _ 2048 _ _ s.requires.2 c.mark_lefts.ensures
+    lefts_closed _ _ _ _ 2048 _ _ c.requires.2 c.mark_lefts.ensures
     c.fill.ensures

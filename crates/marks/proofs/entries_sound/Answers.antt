@@ -12,13 +12,13 @@ loop-rest-init c = (testing_begun c.requires.5, omega arith)
 
 pub is_sound-requires : goal.is_sound-requires
 is_sound-requires c =
-    let s = c in
     let fine = testing_fine (entries_next _ _ _ (omega arith)) c.loop-rest.invariant.0 in
-    (s.requires.0, s.requires.1, s.requires.2, s.requires.3, fine, omega arith)
+    (c.requires.0, c.requires.1, c.requires.2, c.requires.3, fine, omega arith)
 
 pub returns-then-not-is_sound : goal.returns-then-not-is_sound
 returns-then-not-is_sound c =
-    says_no (testing_failed (entries_next _ _ _ (omega arith)) (said_no c.is_sound.ensures (ap not c.if-not-is_sound.true))
+    says_no (testing_failed (entries_next _ _ _ (omega arith))
+    (said_no c.is_sound.ensures (ap not c.if-not-is_sound.true))
     c.loop-rest.invariant.0)
 
 pub loop-rest-smaller : goal.loop-rest-smaller

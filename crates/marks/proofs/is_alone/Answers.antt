@@ -19,15 +19,13 @@ overflow_sub-less-in-loop-rest c = lowest_part _ _ (omega arith) c.loop-rest.inv
 
 pub bit_at-requires : goal.bit_at-requires
 bit_at-requires c =
-    let s = c in
-    place_inside s.args.m _ _ s.requires.0 (omega (arith, c.mirror.ensures))
+    place_inside c.args.m _ _ c.requires.0 (omega (arith, c.mirror.ensures))
 
 pub returns-then-bit_at-ne0 : goal.returns-then-bit_at-ne0
 returns-then-bit_at-ne0 c =
-    let s = c in
-    let e = mirror_read s.args.lefts.now s.args.m _ c.mirror.ensures
+    let e = mirror_read c.args.lefts.now c.args.m _ c.mirror.ensures
     c.bit_at.ensures in
-    says_no (alone_failed s.args.lefts.now _ _ _ (omega arith) c.loop-rest.invariant
+    says_no (alone_failed c.args.lefts.now _ _ _ (omega arith) c.loop-rest.invariant
     (λ z. c.if-bit_at-ne0.true (e ∙ z)))
 
 pub loop-rest-smaller : goal.loop-rest-smaller
@@ -35,8 +33,7 @@ loop-rest-smaller c = rest_less _ (omega arith)
 
 pub loop-rest-preserved : goal.loop-rest-preserved
 loop-rest-preserved c =
-    let s = c in
-    let e = mirror_read s.args.lefts.now s.args.m _ c.mirror.ensures
+    let e = mirror_read c.args.lefts.now c.args.m _ c.mirror.ensures
     c.bit_at.ensures in
     alone_more _ _ _ _ (omega arith) c.loop-rest.invariant (sym e ∙ c.if-bit_at-ne0.false)
 

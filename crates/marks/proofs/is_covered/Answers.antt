@@ -11,50 +11,40 @@ returns-then-x-a-ne0 c = says_yes (λ z. absurd (c.if-x-a-ne0.true z))
 
 pub bit_at-requires : goal.bit_at-requires
 bit_at-requires c =
-    let s = c in
-    place_inside s.args.m _ _ s.requires.1 (omega (arith, c.mirror-place.ensures))
+    place_inside c.args.m _ _ c.requires.1 (omega (arith, c.mirror-place.ensures))
 
 pub returns-then-bit_at-ne0 : goal.returns-then-bit_at-ne0
 returns-then-bit_at-ne0 c =
-    let s = c in
-    let r = mirror_read s.args.keys.now s.args.m s.args.x c.mirror-place.ensures
+    let r = mirror_read c.args.keys.now c.args.m c.args.x c.mirror-place.ensures
     c.bit_at.ensures in
     says_yes (λ z i. inr (inl (omega arith)))
 
 pub bit_at-requires-2 : goal.bit_at-requires-2
 bit_at-requires-2 c =
-    let s = c in
-    place_inside s.args.m _ _ s.requires.2 (omega (arith, c.mirror-place.ensures))
+    place_inside c.args.m _ _ c.requires.2 (omega (arith, c.mirror-place.ensures))
 
 pub returns-then-bit_at-ne0-2 : goal.returns-then-bit_at-ne0-2
 returns-then-bit_at-ne0-2 c =
-    let s = c in
-    let r = mirror_read s.args.lefts.now s.args.m s.args.x
+    let r = mirror_read c.args.lefts.now c.args.m c.args.x
     c.mirror-place.ensures c.bit_at-2.ensures in
     says_yes (λ z i. inl (omega arith))
 
 pub bit_at-requires-3 : goal.bit_at-requires-3
 bit_at-requires-3 c =
-    let s = c in
-    place_inside s.args.m _ _ s.requires.3 (omega arith)
+    place_inside c.args.m _ _ c.requires.3 (omega arith)
 
 pub returns-then-bit_at-ne0-3 : goal.returns-then-bit_at-ne0-3
 returns-then-bit_at-ne0-3 c = says_yes (λ z i. inr (inr (omega (arith, c.bit_at-3.ensures))))
 
 pub bit_at-requires-4 : goal.bit_at-requires-4
 bit_at-requires-4 c =
-    let s = c in
-    place_inside s.args.m _ _ s.requires.0 (omega arith)
+    place_inside c.args.m _ _ c.requires.0 (omega arith)
 
 pub returns : goal.returns
 returns c =
-    let sets = c in
-    let lefts = sets in
-    let keys = lefts in
-    let place = keys.mirror-place.ensures in
-    let s = keys in
-    let key = mirror_read s.args.keys.now s.args.m s.args.x place keys.bit_at.ensures in
-    let left = mirror_read s.args.lefts.now s.args.m s.args.x place lefts.bit_at-2.ensures in
-    covered_unbacked s.args.backed.now s.args.keys.now s.args.lefts.now s.args.sets.now
-    s.args.m s.args.a s.args.x (omega arith) (omega arith) (omega arith)
-    (omega (arith, sets.bit_at-3.ensures)) c.bit_at-4.ensures
+    let place = c.mirror-place.ensures in
+    let key = mirror_read c.args.keys.now c.args.m c.args.x place c.bit_at.ensures in
+    let left = mirror_read c.args.lefts.now c.args.m c.args.x place c.bit_at-2.ensures in
+    covered_unbacked c.args.backed.now c.args.keys.now c.args.lefts.now c.args.sets.now
+    c.args.m c.args.a c.args.x (omega arith) (omega arith) (omega arith)
+    (omega (arith, c.bit_at-3.ensures)) c.bit_at-4.ensures

@@ -17,28 +17,24 @@ returns-then-not-is_for c =
 
 pub mirror-place-requires : goal.mirror-place-requires
 mirror-place-requires c =
-    let s = c in
-    let a = s.args in
+    let a = c.args in
     let is = entry_for a.list.now a.at a.target a.right c.is_for.ensures in
-    let l = s.requires.1 (said_yes is (ap not c.if-not-is_for.false)) in
+    let l = c.requires.1 (said_yes is (ap not c.if-not-is_for.false)) in
     let e = ap (λ (e : Entry). e.left) c.entry_from-e.ensures in
-    (s.requires.0.few, omega arith)
+    (c.requires.0.few, omega arith)
 
 pub mark-requires : goal.mark-requires
 mark-requires c =
-    let read = c in
-    let s = read in
-    let a = s.args in
-    let is = entry_for a.list.now a.at a.target a.right read.is_for.ensures in
-    let l = s.requires.1 (said_yes is (ap not read.if-not-is_for.false)) in
-    let e = ap (λ (e : Entry). e.left) read.entry_from-e.ensures in
-    place_inside a.m _ _ s.requires.0 (omega (arith, c.mirror-place.ensures))
+    let a = c.args in
+    let is = entry_for a.list.now a.at a.target a.right c.is_for.ensures in
+    let l = c.requires.1 (said_yes is (ap not c.if-not-is_for.false)) in
+    let e = ap (λ (e : Entry). e.left) c.entry_from-e.ensures in
+    place_inside a.m _ _ c.requires.0 (omega (arith, c.mirror-place.ensures))
 
 pub returns : goal.returns
 returns c =
-    let read = c in
-    let a = read.args in
-    let is = entry_for a.list.now a.at a.target a.right read.is_for.ensures in
-    let e = ap (λ (e : Entry). mirror a.m e.left) read.entry_from-e.ensures in
-    marked_for _ _ _ _ (said_yes is (ap not read.if-not-is_for.false)) (c.mirror-place.ensures ∙ e)
+    let a = c.args in
+    let is = entry_for a.list.now a.at a.target a.right c.is_for.ensures in
+    let e = ap (λ (e : Entry). mirror a.m e.left) c.entry_from-e.ensures in
+    marked_for _ _ _ _ (said_yes is (ap not c.if-not-is_for.false)) (c.mirror-place.ensures ∙ e)
     c.mark.ensures

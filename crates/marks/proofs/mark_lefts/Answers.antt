@@ -1,7 +1,6 @@
 -- The answers of `marks::mark_lefts`.
 use native.Mathlib.Omega.{arith}
 use borrow.Author.Rules.{rules}
-use lib.ListN.{length}
 use Rattle.marks.proofs.Marking.{marking_begun, marking_fine, marking_more, marking_done}
 use Rattle.evidence.proofs.Lists.{entries_none, entries_next}
 use Rattle.planes.proofs.Marks.{room_kept}

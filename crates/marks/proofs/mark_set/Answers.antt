@@ -16,18 +16,15 @@ returns-then-not-is_for c =
 
 pub mark-requires : goal.mark-requires
 mark-requires c =
-    let read = c in
-    let s = read in
-    let a = s.args in
-    let is = record_for a.bytes.now a.at a.target a.right read.is_for.ensures in
-    let l = s.requires.1 (said_yes is (ap not read.if-not-is_for.false)) in
-    let e = ap (λ (e : Evidence). e.set) read.record_at-e.ensures in
-    place_inside a.m _ _ s.requires.0 (omega arith)
+    let a = c.args in
+    let is = record_for a.bytes.now a.at a.target a.right c.is_for.ensures in
+    let l = c.requires.1 (said_yes is (ap not c.if-not-is_for.false)) in
+    let e = ap (λ (e : Evidence). e.set) c.record_at-e.ensures in
+    place_inside a.m _ _ c.requires.0 (omega arith)
 
 pub returns : goal.returns
 returns c =
-    let read = c in
-    let a = read.args in
-    let is = record_for a.bytes.now a.at a.target a.right read.is_for.ensures in
-    marked_for _ _ _ _ (said_yes is (ap not read.if-not-is_for.false))
-    (ap (λ (e : Evidence). e.set) read.record_at-e.ensures) c.mark.ensures
+    let a = c.args in
+    let is = record_for a.bytes.now a.at a.target a.right c.is_for.ensures in
+    marked_for _ _ _ _ (said_yes is (ap not c.if-not-is_for.false))
+    (ap (λ (e : Evidence). e.set) c.record_at-e.ensures) c.mark.ensures

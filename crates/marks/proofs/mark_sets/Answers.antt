@@ -1,7 +1,6 @@
 -- The answers of `marks::mark_sets`.
 use native.Mathlib.Omega.{arith}
 use borrow.Author.Rules.{rules}
-use lib.ListN.{length}
 use Rattle.marks.proofs.Marking.{marking_begun, marking_fine, marking_more, marking_done}
 use Rattle.evidence.proofs.Lists.{records_none, records_next}
 use Rattle.planes.proofs.Marks.{room_kept}

@@ -7,7 +7,8 @@ use Rattle.marks.proofs.Marking.{Marking}
 use Rattle.marks.proofs.mark_sets.Given as goal
 
 abbrev pub invariant-loop-more : goal.invariant-loop-more
-invariant-loop-more l = Marking (λ y. SetAt l.target l.right y) (NarrowSet l.m l.target l.right) (records_from l.bytes l.count 0)
+invariant-loop-more l = Marking (λ y. SetAt l.target l.right y) (NarrowSet l.m l.target l.right)
+    (records_from l.bytes l.count 0)
     (records_from l.bytes l.more l.at) l.initial.plane l.plane × (l.at + evidence_bytes * l.more ≤ length l.bytes)
 
 abbrev pub decreases-loop-more : goal.decreases-loop-more

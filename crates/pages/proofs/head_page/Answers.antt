@@ -37,10 +37,10 @@ given c =
 
 pub count_from-entries-requires : goal.count_from-entries-requires
 count_from-entries-requires c = record {
-      listable = c.requires.listable;
-      work_bound_in_bounds = search rules;
-      place_le_last = (given c.before).in_range;
-    }
+  listable = c.requires.listable;
+  work_bound_in_bounds = search rules;
+  place_le_last = (given c.before).in_range;
+}
 
 pub put_run-len-requires : goal.put_run-len-requires
 put_run-len-requires c = let g = given c.before.before.before.before.before.before.before.before.before.before in

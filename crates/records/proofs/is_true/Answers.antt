@@ -19,20 +19,17 @@ pub returns-then-not-agree_on : goal.returns-then-not-agree_on
 returns-then-not-agree_on c = says_no (λ h. said_no c.agree_on.ensures (ap not c.if-not-agree_on.true) h.agree)
 
 pub agree_right-requires : goal.agree_right-requires
-agree_right-requires c =
-    let s = c in
-    let fit = c in (
-      omega (arith, c.if-end-p.false, s.requires.1),
-      omega (arith, c.if-end-q.false, s.requires.1),
-      column_small s.requires.0 (said_yes fit.sides_fit.ensures (ap not fit.if-not-sides_fit.false)),
-    )
+agree_right-requires c = (
+  omega (arith, c.if-end-p.false, c.requires.1),
+  omega (arith, c.if-end-q.false, c.requires.1),
+  column_small c.requires.0 (said_yes c.sides_fit.ensures (ap not c.if-not-sides_fit.false)),
+)
 
 pub returns : goal.returns
 returns c =
     let a = c.args in
-    let fit = c in
     true_so_far a.keys.now a.n a.low a.end a.e
-    (said_yes fit.sides_fit.ensures (ap not fit.if-not-sides_fit.false))
+    (said_yes c.sides_fit.ensures (ap not c.if-not-sides_fit.false))
     (omega (arith, c.if-end-p.false)) (omega (arith, c.if-end-q.false))
     (said_yes c.agree_on.ensures (ap not c.if-not-agree_on.false))
-    c.Agree-right.ensures
+    c.agree_right.ensures

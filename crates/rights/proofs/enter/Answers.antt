@@ -14,10 +14,10 @@ minimal_alone-minimal-requires c =
     let e = c.visible-n.ensures in record {
       n_le_column_bound = omega (arith, e, accepted_visible cat s.requires.accepted s.args.target s.requires.target_bound);
       end_le_row_bound = omega (
-          arith,
-          c.rows-end.ensures,
-          accepted_rows cat s.requires.accepted s.args.target s.requires.target_bound,
-        );
+        arith,
+        c.rows-end.ensures,
+        accepted_rows cat s.requires.accepted s.args.target s.requires.target_bound,
+      );
       x_bound = subst (λ (n : ℕ). s.args.left < 2 ^ n) (sym e) s.requires.left_bound.0;
       own_bound = own_fits _ _ e c.own_rights-own.ensures;
     }
@@ -54,10 +54,10 @@ fill-held-requires c =
       accepted = s.requires.accepted;
       target_bound = s.requires.target_bound;
       n_value = (
-          e,
-          s.requires.left_bound.1,
-          keyed_rows _ _ t.rows-end.ensures t.lay_all.ensures,
-        );
+        e,
+        s.requires.left_bound.1,
+        keyed_rows _ _ t.rows-end.ensures t.lay_all.ensures,
+      );
     }
 
 pub returns : goal.returns

@@ -25,10 +25,10 @@ back_seeds-requires c =
       accepted = s.requires.accepted;
       target_bound = s.requires.target_bound;
       n_value = (
-          p.0,
-          narrow_wide _ _ p.1 (omega (arith, w)),
-          omega (arith, narrow_fits _ _ p.1 p.2.few),
-        );
+        p.0,
+        narrow_wide _ _ p.1 (omega (arith, w)),
+        omega (arith, narrow_fits _ _ p.1 p.2.few),
+      );
     }
 
 pub returns-then-work-power : goal.returns-then-work-power
@@ -59,11 +59,11 @@ back_table-requires c =
       accepted = s.requires.accepted;
       target_bound = s.requires.target_bound;
       n_value = (
-          p.0,
-          omega (arith, c.power.ensures),
-          g.0,
-          g.1 (view s.args.cat.now s.args.target) p.2,
-        );
+        p.0,
+        omega (arith, c.power.ensures),
+        g.0,
+        g.1 (view s.args.cat.now s.args.target) p.2,
+      );
     }
 
 pub returns : goal.returns

@@ -29,7 +29,8 @@ loop-q-smaller c =
 pub loop-q-preserved : goal.loop-q-preserved
 loop-q-preserved c =
     let s = c.args.s.now in
-    sym (many_more s _ _ (attributes_go s) (sym c.is_attribute.ensures ∙ c.loop-q-test.true) (sym c.attribute_at-q.ensures) c.if-q-eq0.false)
+    sym (many_more s _ _ (attributes_go s) (sym c.is_attribute.ensures ∙ c.loop-q-test.true)
+    (sym c.attribute_at-q.ensures) c.if-q-eq0.false)
     ∙ c.loop-q.invariant
 
 pub returns : goal.returns

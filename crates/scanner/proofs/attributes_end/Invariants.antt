@@ -7,7 +7,8 @@ use Rattle.model.specs.Form.{many, attribute_at, is_attribute}
 use Rattle.scanner.proofs.attributes_end.Given as goal
 
 abbrev pub invariant-loop-q : goal.invariant-loop-q
-invariant-loop-q l = many l.s (is_attribute l.s) (attribute_at l.s) l.q ≡ many l.s (is_attribute l.s) (attribute_at l.s) l.p
+invariant-loop-q l = many l.s (is_attribute l.s) (attribute_at l.s) l.q
+    ≡ many l.s (is_attribute l.s) (attribute_at l.s) l.p
 
 abbrev pub decreases-loop-q : goal.decreases-loop-q
 decreases-loop-q l = length l.s - l.q

@@ -6,7 +6,8 @@ use Rattle.evidence.proofs.Lists.{Testing}
 use Rattle.soundness.proofs.all_known.Given as goal
 
 abbrev pub invariant-loop-rest : goal.invariant-loop-rest
-invariant-loop-rest l = Testing (λ e. e.target < l.tables) (λ e. Unit {0}) (entries_from l.list l.count l.first) (entries_from l.list l.rest l.at)
+invariant-loop-rest l = Testing (λ e. e.target < l.tables) (λ e. Unit {0})
+    (entries_from l.list l.count l.first) (entries_from l.list l.rest l.at)
     × (l.at + entry_bytes * l.rest ≤ length l.list)
 
 abbrev pub decreases-loop-rest : goal.decreases-loop-rest

@@ -18,7 +18,8 @@ returns-then-not-fits_for c =
     let next = entries_next a.list.now g.rest g.at c.loop-rest-test.true in
     let e = c.entry_from-e.ensures in
     let is = c.fits_for.ensures in
-    says_no (testing_failed next (read_no (FitsFor a.n a.low a.target) e is (ap not c.if-not-fits_for.true)) g.invariant.0)
+    says_no (testing_failed next (read_no (FitsFor a.n a.low a.target) e is (ap not c.if-not-fits_for.true))
+    g.invariant.0)
 
 pub loop-rest-preserved : goal.loop-rest-preserved
 loop-rest-preserved c =

@@ -8,36 +8,29 @@ use Rattle.soundness.proofs.right_sound.Goals as goal
 
 pub fill-requires : goal.fill-requires
 fill-requires c =
-    let s = c in
-    let room = s.requires.3 in
-    (room.word, room.few, omega arith, room.fits, seed_words_small s.args.m room.few)
+    let room = c.requires.3 in
+    (room.word, room.few, omega arith, room.fits, seed_words_small c.args.m room.few)
 
 pub close_lefts-requires : goal.close_lefts-requires
 close_lefts-requires c =
-    let s = c in
-    let room = s.requires.3 in
-    (blank_room s.args.m room.word room.few, s.requires.5, lefts_narrow _ _ _ _ _ s.requires.0 s.requires.6)
+    let room = c.requires.3 in
+    (blank_room c.args.m room.word room.few, c.requires.5, lefts_narrow _ _ _ _ _ c.requires.0 c.requires.6)
 
 pub entries_sound-requires : goal.entries_sound-requires
 entries_sound-requires c =
-    let fill = c in
-    let s = fill in
-    let room = s.requires.3 in
-    let small = seed_words_small s.args.m room.few in (
-      s.requires.4,
+    let room = c.requires.3 in
+    let small = seed_words_small c.args.m room.few in (
+      c.requires.4,
       record { word = room.word; few = room.few; fits = omega arith },
-      s.requires.7,
+      c.requires.7,
       record { word = room.word; few = room.few; fits = omega arith },
-      s.requires.5,
-      lefts_narrow _ _ _ _ _ s.requires.0 s.requires.6,
+      c.requires.5,
+      lefts_narrow _ _ _ _ _ c.requires.0 c.requires.6,
     )
 
 pub returns : goal.returns
 returns c v en eq sown there =
-    let lefts = c in
-    let fill = lefts in
-    let right = fill.right_at-right in
-    let s = fill in
-    sound_in v _ _ s.args.n s.args.m s.args.a right.result _ s.args.backed.now _
-    s.args.keys.now _ s.requires.0 s.requires.1 s.requires.2 right.ensures s.requires.6 fill.fill.ensures
-    s.requires.8 lefts.close_lefts.ensures c.entries_sound.ensures en eq sown there
+    let right = c.right_at-right in
+    sound_in v _ _ c.args.n c.args.m c.args.a right.result _ c.args.backed.now _
+    c.args.keys.now _ c.requires.0 c.requires.1 c.requires.2 right.ensures c.requires.6 c.fill.ensures
+    c.requires.8 c.close_lefts.ensures c.entries_sound.ensures en eq sown there

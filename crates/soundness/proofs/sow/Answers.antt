@@ -5,8 +5,7 @@ use Rattle.soundness.proofs.sow.Goals as goal
 
 pub returns : goal.returns
 returns c =
-    let s = c in
-    let v = view s.args.cat.now s.args.target in (
+    let v = view c.args.cat.now c.args.target in (
       c.sow_among.ensures.0,
       c.sow_among.ensures.1 v
           (keyed_end v c.rows-end.ensures

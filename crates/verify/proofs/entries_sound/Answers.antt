@@ -9,20 +9,18 @@ use Rattle.verify.proofs.entries_sound.Goals as goal
 
 pub returns-then-not-all_known : goal.returns-then-not-all_known
 returns-then-not-all_known c =
-    let s = c in
-    says_no (λ h. said_no c.before.all_Known.ensures (ap not c.if-not-all_known.true)
-    (entries_known s.args.cat.now _ c.tables-end.ensures h))
+    says_no (λ h. said_no c.all_known.ensures (ap not c.if-not-all_known.true)
+    (entries_known c.args.cat.now _ c.tables-end.ensures h))
 
 pub loop-target-init : goal.loop-target-init
 loop-target-init c = so_far_none
 
 pub target_sound-requires : goal.target_sound-requires
 target_sound-requires c =
-    let s = c in
     record {
-      accepted = s.requires.0;
+      accepted = c.requires.0;
       target_bound = omega (arith, c.loop-target-test.true, c.tables-end.ensures);
-      count_in_bounds = s.requires.1;
+      count_in_bounds = c.requires.1;
     }
 
 pub returns-then-not-target_sound : goal.returns-then-not-target_sound
@@ -36,7 +34,6 @@ loop-target-preserved c =
 
 pub returns : goal.returns
 returns c =
-    let s = c in
-    says_yes (all_targets_sound s.args.cat.now _ c.tables-end.ensures
-    (said_yes c.before.before.before.all_Known.ensures (ap not c.if-not-all_known.false))
+    says_yes (all_targets_sound c.args.cat.now _ c.tables-end.ensures
+    (said_yes c.all_known.ensures (ap not c.if-not-all_known.false))
     (so_far_all (omega arith) c.loop-target.invariant))

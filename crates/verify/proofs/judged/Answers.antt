@@ -24,32 +24,27 @@ returns-then-not-entries_sound c =
 
 pub sets_covered-requires : goal.sets_covered-requires
 sets_covered-requires c =
-    let s = c in
     let fine = said_yes c.records_true.ensures (ap not c.if-not-records_true.false) in (
-      s.requires.0,
-      s.requires.1,
+      c.requires.0,
+      c.requires.1,
       omega arith,
       said_yes c.entries_sound.ensures (ap not c.if-not-entries_sound.false),
-      each_true s.args.cat.now s.args.bytes.now (count_is _) fine,
+      each_true c.args.cat.now c.args.bytes.now (count_is _) fine,
     )
 
 pub returns-then-not-sets_covered : goal.returns-then-not-sets_covered
 returns-then-not-sets_covered c =
     let a = c.args in
     let by = covered_held a.cat.now (entries_from a.list.now a.count a.first) a.bytes.now in
-    let first = c in
-    let second = c in
-    refused_19 a.cat.now _ a.bytes.now (said_yes first.records_true.ensures (ap not first.if-not-records_true.false))
-    (said_yes second.entries_sound.ensures (ap not second.if-not-entries_sound.false))
+    refused_19 a.cat.now _ a.bytes.now (said_yes c.records_true.ensures (ap not c.if-not-records_true.false))
+    (said_yes c.entries_sound.ensures (ap not c.if-not-entries_sound.false))
     (λ h. said_no c.sets_covered.ensures (ap not c.if-not-sets_covered.true) (by.1 h))
 
 pub returns : goal.returns
 returns c =
     let a = c.args in
     let by = covered_held a.cat.now (entries_from a.list.now a.count a.first) a.bytes.now in
-    let first = c in
-    let second = c in
     accepted_from a.cat.now a.list.now a.bytes.now a.count a.first
-    (said_yes first.records_true.ensures (ap not first.if-not-records_true.false))
-    (said_yes second.entries_sound.ensures (ap not second.if-not-entries_sound.false))
+    (said_yes c.records_true.ensures (ap not c.if-not-records_true.false))
+    (said_yes c.entries_sound.ensures (ap not c.if-not-entries_sound.false))
     (by.0 (said_yes c.sets_covered.ensures (ap not c.if-not-sets_covered.false)))

@@ -15,29 +15,26 @@ all_known-requires c = held_inside _ c.requires.1
 
 pub returns-then-not-all_known : goal.returns-then-not-all_known
 returns-then-not-all_known c =
-    let s = c in
-    says_no (λ h. said_no c.before.all_Known.ensures (ap not c.if-not-all_known.true)
-    (for_tables s.args.cat.now s.args.bytes.now s.requires.1 c.tables-end.ensures h))
+    says_no (λ h. said_no c.all_known.ensures (ap not c.if-not-all_known.true)
+    (for_tables c.args.cat.now c.args.bytes.now c.requires.1 c.tables-end.ensures h))
 
 pub loop-target-init : goal.loop-target-init
 loop-target-init c = so_far_none
 
 pub target_true-requires : goal.target_true-requires
 target_true-requires c =
-    let s = c in
     let end = c.tables-end.ensures in
     record {
-      accepted = s.requires.0;
+      accepted = c.requires.0;
       target_bound = omega (arith, c.loop-target-test.true, end);
-      count_in_bounds = held_inside _ s.requires.1;
+      count_in_bounds = held_inside _ c.requires.1;
     }
 
 pub returns-then-not-target_true : goal.returns-then-not-target_true
 returns-then-not-target_true c =
-    let s = c in
     let end = c.tables-end.ensures in
     says_no (λ h. said_no c.target_true.ensures (ap not c.if-not-target_true.true)
-    (of_target s.args.cat.now s.args.bytes.now s.requires.1 end h _))
+    (of_target c.args.cat.now c.args.bytes.now c.requires.1 end h _))
 
 pub loop-target-preserved : goal.loop-target-preserved
 loop-target-preserved c =
@@ -46,9 +43,8 @@ loop-target-preserved c =
 
 pub returns : goal.returns
 returns c =
-    let s = c in
     let end = c.tables-end.ensures in
-    says_yes (all_targets_true s.args.cat.now s.args.bytes.now s.requires.1 end
+    says_yes (all_targets_true c.args.cat.now c.args.bytes.now c.requires.1 end
     c.if-bytes-ne0.false
-    (said_yes c.before.before.before.all_Known.ensures (ap not c.if-not-all_known.false))
+    (said_yes c.all_known.ensures (ap not c.if-not-all_known.false))
     (so_far_all (omega arith) c.loop-target.invariant))

@@ -29,6 +29,5 @@ loop-target-preserved c =
 
 pub returns : goal.returns
 returns c =
-    let s = c in
-    says_yes (all_targets_covered s.args.cat.now _ c.tables-end.ensures _
+    says_yes (all_targets_covered c.args.cat.now _ c.tables-end.ensures _
     (so_far_all (omega arith) c.loop-target.invariant))

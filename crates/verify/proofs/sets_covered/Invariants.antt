@@ -7,7 +7,8 @@ use Rattle.coverage.specs.Covered.{TargetCovered}
 use Rattle.verify.proofs.sets_covered.Given as goal
 
 abbrev pub invariant-loop-target : goal.invariant-loop-target
-invariant-loop-target l = SoFar (TargetCovered l.cat (entries_from l.list l.count l.first) (records_from l.bytes l.records 0)) l.end l.target
+invariant-loop-target l = SoFar (TargetCovered l.cat (entries_from l.list l.count l.first)
+    (records_from l.bytes l.records 0)) l.end l.target
 
 abbrev pub decreases-loop-target : goal.decreases-loop-target
 decreases-loop-target l = l.end - l.target

@@ -19,24 +19,18 @@ returns-then-code-ne0 c =
 
 pub judged-requires : goal.judged-requires
 judged-requires c =
-    let e = sym (ap open_reply c.count-1.given.1) ∙ c.before.before.before.«open».ensures in
-    let ok = c in
-    (sym ok.check_code-code.ensures ∙ ok.if-code-ne0.false, omega (arith, (opened _ e).inside))
+    (sym c.check_code-code.ensures ∙ c.if-code-ne0.false, omega (arith, (opened _ c.in-Opened.ensures).inside))
 
 pub returns-in-Opened : goal.returns-in-Opened
 returns-in-Opened c =
     let a = c.args in
-    let told = c in
-    let e = sym (ap open_reply told.count-1.given.1) ∙ told.before.before.«open».ensures in
-    let ok = told in
     c.judged.ensures
     ∙ list_opened a.cat.now a.list.now a.evidence.now
-    (sym ok.check_code-code.ensures ∙ ok.if-code-ne0.false) (opened _ e)
+    (sym c.check_code-code.ensures ∙ c.if-code-ne0.false) (opened _ c.in-Opened.ensures)
 
 pub returns-in-Refused : goal.returns-in-Refused
 returns-in-Refused c =
     let a = c.args in
-    let ok = c in
     list_refused a.cat.now a.list.now a.evidence.now
-    (sym ok.check_code-code.ensures ∙ ok.if-code-ne0.false)
-    (sym (ap open_reply c.r-1.given.1) ∙ c.before.before.before.«open».ensures)
+    (sym c.check_code-code.ensures ∙ c.if-code-ne0.false)
+    c.in-Refused.ensures

@@ -74,10 +74,10 @@ last : (c : Joined-x-gt0) → LastOfSize (width c.before) (bits c.before)
 last c =
     let d = c.before in
     elim c.if-x-gt0.branch [
-      then-x-gt0+else-r-end w ↦ last_moved (width d) (bits d) (bits d + w.power.result)
+      | then-x-gt0+else-r-end w ↦ last_moved (width d) (bits d) (bits d + w.power.result)
           (moved_by 32 _ _ w.if-x-gt0.true (word d) w.power.ensures)
           (omega (arith, w.if-r-end.false, d.power-end.ensures))
-    | else-x-gt0 w ↦ last_zero (width d) (bits d) w.if-x-gt0.false
+      | else-x-gt0 w ↦ last_zero (width d) (bits d) w.if-x-gt0.false
     ]
 
 pub returns-then-n-gt-COLUMN_BOUND : goal.returns-then-n-gt-COLUMN_BOUND

@@ -19,9 +19,9 @@ behind c =
 
 pub occurring-requires : goal.occurring-requires
 occurring-requires c = record {
-      n_le_column_bound = (c.requires.1, c.requires.2);
-      blank = blank_begun;
-    }
+  n_le_column_bound = (c.requires.1, c.requires.2);
+  blank = blank_begun;
+}
 
 pub write_seeds-requires : goal.write_seeds-requires
 write_seeds-requires c =
@@ -33,10 +33,10 @@ bounds-words-power c = omega (arith, behind c)
 
 pub returns : goal.returns
 returns c = record {
-      sown = sown c.write_seeds.new.words c.power.result
+  sown = sown c.write_seeds.new.words c.power.result
       c.requires.0 c.power.ensures
       (sown_among c.occurring.ensures _
       c.requires.0
       c.write_seeds.ensures);
-      n_after = none_cached _ _ c.write_seeds.new.words c.power.ensures (behind c);
-    }
+  n_after = none_cached _ _ c.write_seeds.new.words c.power.ensures (behind c);
+}

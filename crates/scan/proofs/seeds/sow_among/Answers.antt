@@ -5,9 +5,9 @@ use Rattle.scan.proofs.seeds.sow_among.Goals as goal
 
 pub occurring-requires : goal.occurring-requires
 occurring-requires c = record {
-      n_le_column_bound = (c.requires.0, c.requires.3);
-      blank = blank_begun;
-    }
+  n_le_column_bound = (c.requires.0, c.requires.3);
+  blank = blank_begun;
+}
 
 pub returns : goal.returns
 returns c = (
