@@ -1,7 +1,7 @@
 /*
  * Converts a supplier's text into a catalogue, by a shape, and writes the catalogue to standard output.
  *
- *     gcc -std=c99 -Wall -Wextra -Werror -I include examples/c/convert.c target/staticlib/libhost.a -o convert
+ *     gcc -std=c99 -Wall -Wextra -Werror -I include examples/c/convert.c crates/host/out/libhost.a -o convert
  *     ./convert examples/album.shape examples/album.xml > album.cat
  *
  * A refusal prints `refused` and its number to standard error, and nothing to standard output.

@@ -2,7 +2,7 @@
  * Checks a catalogue, asks it four questions, lists it in steps, packs the list behind it, reads the list back and
  * checks it by evidence.
  *
- *     gcc -std=c99 -Wall -Wextra -Werror -I include examples/c/example.c target/staticlib/libhost.a -o example
+ *     gcc -std=c99 -Wall -Wextra -Werror -I include examples/c/example.c crates/host/out/libhost.a -o example
  *     ./example examples/album.cat
  *
  * With the album the output is expected.txt.
