@@ -2,7 +2,7 @@
 //!
 //!     program [PATH] [CATALOGUES] [SEED]
 //!
-//! PATH is ../target/bin/list if not given. After the fixed inputs, CATALOGUES (1,000 if not given) are made from
+//! PATH is ../crates/list/out/list if not given. After the fixed inputs, CATALOGUES (1,000 if not given) are made from
 //! the seeds SEED, SEED + 1, and so on (from 1 if not given), each sound and damaged. A difference is printed
 //! with its input, and ends the run with status 1.
 
@@ -196,7 +196,7 @@ fn main() {
             exit(2)
         }
     };
-    let program = arguments.first().map_or("../target/bin/list", String::as_str).into();
+    let program = arguments.first().map_or("../crates/list/out/list", String::as_str).into();
     let (count, first) = (number(1, 1_000), number(2, 1));
     let start = Instant::now();
     let mut trial = Trial { program, refusals: [0; 17], too_long: 0, listings: 0, most_entries: 0 };
