@@ -11,7 +11,8 @@ use Rattle.columns.proofs.Test.{if_eq_yes, if_eq_no, if_lt_yes, if_lt_no, if_le_
 use Rattle.model.specs.Bounds.{no_parent}
 use Rattle.model.specs.Refusal.{first_of}
 use Rattle.model.specs.Catalogue.{table_at, parent, rows, table_end, visible}
-use Rattle.model.specs.Check.{Accepted, check_code, size_code, trailer_code, start_of, head_code, bound_code, parent_code}
+use Rattle.model.specs.Check.{Accepted, check_code, size_code, trailer_code, start_of, head_code, bound_code}
+use Rattle.model.specs.Check.{parent_code}
 use Rattle.model.specs.Check.{width_code, extent_code, row_code, table_code, left_code}
 use Rattle.model.specs.Encode.{Content, tables_bytes, encode}
 use Rattle.model.proofs.Grounds.{or_else_none, first_of_none}

@@ -17,7 +17,8 @@ use Rattle.model.specs.Listing.{ordinary, rights_of}
 use Rattle.model.specs.Evidence.{TrueRecord, is_true_record, all_in, some_in, records_held, unbroken}
 use Rattle.model.specs.Contains.{Inside, EntryFor, ContainsListed}
 use Rattle.model.specs.Verify.{NoKey, SoundEntry, Candidate, InsideRecord, Covered}
-use Rattle.model.specs.Verify.{TrueRecords, SoundEntries, CoveredSets, is_for, contains_listed, is_sound_entry, is_covered}
+use Rattle.model.specs.Verify.{TrueRecords, SoundEntries, CoveredSets, is_for, contains_listed, is_sound_entry}
+use Rattle.model.specs.Verify.{is_covered}
 use Rattle.model.specs.Verify.{are_true_records, are_sound_entries, are_covered_sets}
 use Rattle.model.specs.declared.Entry.{Entry}
 use Rattle.model.specs.declared.Evidence.{Evidence}

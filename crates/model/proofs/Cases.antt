@@ -38,7 +38,8 @@ use Rattle.model.proofs.RefusedCalls.{one_ground_lem, refused_questions_lem, ref
 use Rattle.model.proofs.Supplied.{supplied}
 use Rattle.model.proofs.Texts.{conversions, fine_points_lem}
 use Rattle.model.proofs.Line.{line, fork, depth}
-use Rattle.model.proofs.Replies.{question_replies_lem, call_parts_lem, list_replies_lem, packed_replies_lem, text_replies_lem}
+use Rattle.model.proofs.Replies.{question_replies_lem, call_parts_lem, list_replies_lem, packed_replies_lem}
+use Rattle.model.proofs.Replies.{text_replies_lem}
 use Rattle.model.proofs.Values.{bound_values, byte_order_lem, refusal_numbers_lem, answer_values_lem}
 use Rattle.model.proofs.Text.{album_text_lem}
 use Rattle.model.proofs.View.{holds_true, holds_false, breaks_is, minimal_is}

@@ -23,7 +23,8 @@ use Rattle.model.specs.Encode.{rows_bytes, table_bytes, tables_bytes, starts_fro
 use Rattle.model.specs.Album.{album, no_rows, one_missing, both_missing, equal_rows, two_groups, key_below}
 use Rattle.model.specs.Album.{parted, lost_above, two_keys, twins}
 use Rattle.model.specs.Damaged.{grounds_from, not_zero, grounds, cut, no_table, children, offsets_from, many_tables}
-use Rattle.model.specs.Damaged.{long_trailer, late_table, gap, short_head, short_row, left_byte, many_columns, rows_only}
+use Rattle.model.specs.Damaged.{long_trailer, late_table, gap, short_head, short_row, left_byte, many_columns}
+use Rattle.model.specs.Damaged.{rows_only}
 use Rattle.model.specs.Damaged.{many_rows, rooted_root, own_parent, too_wide, rooted_row, unknown_parent_row, smallest}
 use Rattle.model.specs.Damaged.{most_columns, most_rows, widest, late_and_large, large_and_rooted, own_parent_and_wide}
 use Rattle.model.specs.Damaged.{wide_and_long, long_and_rooted, row_then_table, row_then_byte, row_then_gap}

@@ -15,7 +15,8 @@ use Rattle.model.specs.Refusal.{number, or_else, first_of}
 use Rattle.model.specs.declared.Refusal.TheVariants.{BadParentRow}
 use Rattle.model.specs.Catalogue.{tables, trailer, table_at, columns, parent, rows, row_at, parent_row, table_end}
 use Rattle.model.specs.Catalogue.{visible, visible_in}
-use Rattle.model.specs.Check.{Accepted, check_code, table_code, start_of, size_code, trailer_code, head_code, bound_code}
+use Rattle.model.specs.Check.{Accepted, check_code, table_code, start_of, size_code, trailer_code, head_code}
+use Rattle.model.specs.Check.{bound_code}
 use Rattle.model.specs.Check.{parent_code, width_code, extent_code, row_code, left_code}
 use Rattle.model.specs.Encode.{head_of, codes_of, trailer_of}
 use Rattle.model.specs.Damaged.{Damages, Only, grounds_from, not_zero, grounds, rows_only, many_rows, most_rows}

@@ -1,7 +1,8 @@
 -- The conversion of a supplier's text by a shape (document 02, f): refusals 20 to 22, the reply and the output. What
 -- the text means is told by specs/Xml and specs/Forest; here it is read off the tags one after the other, and that this
 -- gives the same tables is proved: `converts_exactly`.
-use Rattle.std.specs.Prelude.{ℕ, zero, suc, ◌-◌, Bool, true, false, ◌&&◌, List, [], ◌∷◌, ◌++◌, eqb, ltb, length, drop, get_or}
+use Rattle.std.specs.Prelude.{ℕ, zero, suc, ◌-◌, Bool, true, false, ◌&&◌, List, [], ◌∷◌, ◌++◌, eqb, ltb, length, drop}
+use Rattle.std.specs.Prelude.{get_or}
 use Rattle.columns.specs.Test.{pick, if_eq, if_lt}
 use Rattle.model.specs.Bounds.{row_bound, no_parent}
 use Rattle.model.specs.Refusal.{number, or_else, first_of}

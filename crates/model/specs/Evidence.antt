@@ -1,7 +1,8 @@
 -- Evidence (document 02, b): records that each name two rows which break a dependency. Records as bytes, and when one
 -- is true: in the words of the document, and beside it the test that computes. That the two say the same is shown in
 -- proofs/Tests.antt of `evidence`.
-use Rattle.std.specs.Prelude.{ℕ, zero, suc, ◌+◌, ◌/◌, ◌%◌, ◌<◌, ◌≡◌, Bool, true, false, not, ◌&&◌, ◌||◌, List, [], ◌∷◌, ◌++◌, T, eqb, ltb, length}
+use Rattle.std.specs.Prelude.{ℕ, zero, suc, ◌+◌, ◌/◌, ◌%◌, ◌<◌, ◌≡◌, Bool, true, false, not, ◌&&◌, ◌||◌, List, []}
+use Rattle.std.specs.Prelude.{◌∷◌, ◌++◌, T, eqb, ltb, length}
 use Rattle.model.specs.Bytes.{byte_at, u16_at, bytes2}
 use Rattle.model.specs.Catalogue.{rows}
 use Rattle.model.specs.View.{In, AgreeOn, agree_right, is_in, agree_on}

@@ -1,7 +1,8 @@
 -- A supplier's text, read (document 02, f): each reader takes a position and gives the position behind what it reads
 -- there, or 0 where that does not stand there. That these readers take exactly the texts of specs/Xml is proved, not
 -- believed: `form_exactly`.
-use Rattle.std.specs.Prelude.{ℕ, zero, suc, ◌+◌, ◌-◌, ◌*◌, Bool, true, false, ◌&&◌, not, List, [], ◌∷◌, eqb, leb, length, take, drop}
+use Rattle.std.specs.Prelude.{ℕ, zero, suc, ◌+◌, ◌-◌, ◌*◌, Bool, true, false, ◌&&◌, not, List, [], ◌∷◌, eqb, leb}
+use Rattle.std.specs.Prelude.{length, take, drop}
 use Rattle.columns.specs.Test.{pick, if_eq, if_lt}
 use Rattle.model.specs.Bounds.{table_bound, missing, no_parent}
 use Rattle.model.specs.Bytes.{byte_at}

@@ -5,7 +5,8 @@
 #![tactic(auto)]
 
 ghost use Rattle.std.specs.Prelude.{◌≡◌};
-ghost use Rattle.model.specs.Question.{target_code, left_side_code, right_side_code, sides_code, words_code, question_code};
+ghost use Rattle.model.specs.Question.{target_code, left_side_code, right_side_code, sides_code, words_code};
+ghost use Rattle.model.specs.Question.{question_code};
 
 use grounds::check_code;
 use layout::{inherited, tables, visible};

@@ -5,7 +5,6 @@ use lib.ListN.{length, drop}
 use Rattle.model.specs.Form.{cells_in}
 use Rattle.model.specs.Convert.{are_below}
 use Rattle.attributes.proofs.Tags.{Passing}
-use Rattle.attributes.proofs.Fits.{below}
 use Rattle.attributes.proofs.are_below.Given as goal
 
 abbrev pub invariant-loop-i : goal.invariant-loop-i

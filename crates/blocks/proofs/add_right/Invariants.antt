@@ -6,7 +6,9 @@ use Rattle.blocks.specs.Cache.{AddedBelow}
 use Rattle.blocks.proofs.add_right.Given as goal
 
 abbrev pub invariant-loop-j : goal.invariant-loop-j
-invariant-loop-j l = (l.j ≤ l.count) × (length l.words ≡ length l.initial.words) × AddedBelow l.n l.a l.j l.plane l.initial.words l.words
+invariant-loop-j l =
+    (l.j ≤ l.count) × (length l.words ≡ length l.initial.words)
+    × AddedBelow l.n l.a l.j l.plane l.initial.words l.words
 
 abbrev pub decreases-loop-j : goal.decreases-loop-j
 decreases-loop-j l = l.count - l.j

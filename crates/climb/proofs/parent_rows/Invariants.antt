@@ -7,7 +7,9 @@ use Rattle.filled.specs.Filled.{Filled}
 use Rattle.climb.proofs.parent_rows.Given as goal
 
 abbrev pub invariant-loop-q : goal.invariant-loop-q
-invariant-loop-q l = (l.q ≤ l.end) × Filled 0 l.q (λ p. u16_at l.cat (l.o + get_or l.initial.reached p 0 * l.width)) l.initial.reached l.reached
+invariant-loop-q l =
+    (l.q ≤ l.end)
+    × Filled 0 l.q (λ p. u16_at l.cat (l.o + get_or l.initial.reached p 0 * l.width)) l.initial.reached l.reached
 
 abbrev pub decreases-loop-q : goal.decreases-loop-q
 decreases-loop-q l = l.end - l.q

@@ -2,8 +2,6 @@
 use Prim.Native.Nat.{◌-◌}
 use mathlib.Core.Path.{sym, ◌∙◌}
 use native.Mathlib.Omega.{arith}
-use Rattle.model.specs.Catalogue.{rows}
-use Rattle.model.specs.Check.{row_code}
 use Rattle.grounds.proofs.First.{none_below_zero, none_below_more, first_found, none_found}
 use Rattle.grounds.proofs.Starts.{next_row, row_code_is}
 use borrow.Author.Rules.{rules}

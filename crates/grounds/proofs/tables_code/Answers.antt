@@ -1,7 +1,6 @@
 -- The answers of `grounds::tables_code`.
 use Prim.Native.Nat.{◌-◌}
 use native.Mathlib.Omega.{arith}
-use Rattle.model.specs.Check.{table_code}
 use Rattle.grounds.proofs.First.{none_below_zero, none_below_more, first_found, none_found}
 use borrow.Author.Rules.{rules}
 use Rattle.grounds.proofs.tables_code.Goals as goal

@@ -2,7 +2,7 @@
 use Prim.Native.Nat.{ℕ}
 use mathlib.Core.Path.{◌∙◌}
 use native.Mathlib.Omega.{arith}
-use lib.ListN.{length, length-replicate}
+use lib.ListN.{length-replicate}
 use Rattle.model.specs.Bounds.{row_bound}
 use Rattle.keys.proofs.Tables.{table_begun, table_passed, table_more, table_moved}
 use Rattle.keys.proofs.lay_table.Goals as goal

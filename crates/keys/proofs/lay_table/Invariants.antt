@@ -7,7 +7,9 @@ use Rattle.keys.specs.Column.{LaidTable}
 use Rattle.keys.proofs.lay_table.Given as goal
 
 abbrev pub invariant-loop-j : goal.invariant-loop-j
-invariant-loop-j l = (l.j ≤ l.c) × (length l.words ≡ row_bound) × (length l.leaders ≡ row_bound) × LaidTable l.cat l.o l.c l.low l.reached l.end l.set l.j l.initial.keys l.keys
+invariant-loop-j l =
+    (l.j ≤ l.c) × (length l.words ≡ row_bound) × (length l.leaders ≡ row_bound)
+    × LaidTable l.cat l.o l.c l.low l.reached l.end l.set l.j l.initial.keys l.keys
 
 abbrev pub decreases-loop-j : goal.decreases-loop-j
 decreases-loop-j l = l.j

@@ -7,7 +7,9 @@ use Rattle.model.specs.Catalogue.{visible, visible_in}
 use Rattle.layout.proofs.visible.Given as goal
 
 abbrev pub invariant-loop-left : goal.invariant-loop-left
-invariant-loop-left l = (l.sum + visible_in l.cat l.left l.at ≡ visible l.cat l.table) × (l.left ≤ table_bound) × (l.sum ≤ (table_bound - l.left) * no_parent)
+invariant-loop-left l =
+    (l.sum + visible_in l.cat l.left l.at ≡ visible l.cat l.table) × (l.left ≤ table_bound)
+    × (l.sum ≤ (table_bound - l.left) * no_parent)
 
 abbrev pub decreases-loop-left : goal.decreases-loop-left
 decreases-loop-left l = l.left

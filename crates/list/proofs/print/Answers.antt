@@ -1,5 +1,5 @@
 -- As long as pages are taken, the bytes taken and those still to come are the text.
-use Rattle.std.proofs.Common.{◌+◌, ◌<◌, arith, refl, rules}
+use Rattle.std.proofs.Common.{arith, refl, rules}
 use Rattle.model.specs.Text.{answer_text}
 use Rattle.pages.proofs.Whole.{rest_none, answer_small}
 use Rattle.text.specs.Written.{AppendsFirst}

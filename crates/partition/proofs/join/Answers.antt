@@ -1,14 +1,10 @@
 -- The answers of `partition::join`.
-use Prim.Native.Nat.{ℕ, ◌-◌, ◌≤◌, ◌<◌}
-use mathlib.Core.List.{List}
+use Prim.Native.Nat.{ℕ, ◌-◌}
 use native.Mathlib.Omega.{arith}
-use lib.ListN.{get_or, length-replicate}
+use lib.ListN.{length-replicate}
 use Rattle.model.specs.Bounds.{row_bound}
-use Rattle.leaders.specs.Keys.{key_at}
-use Rattle.filled.specs.Filled.{Filled}
 use Rattle.filled.proofs.Below.{below_more}
 use Rattle.filled.proofs.Filled.{filled_none, filled_more, filled_first}
-use Rattle.partition.specs.Partition.{key_bound, leader_word}
 use Rattle.partition.proofs.Leading.{led_joined}
 use Rattle.partition.proofs.join.Goals as goal
 

@@ -5,7 +5,6 @@ use mathlib.Core.List.{List}
 use native.Mathlib.Omega.{arith}
 use lib.ListN.{length}
 use Rattle.model.specs.Bounds.{row_bound}
-use Rattle.filled.specs.Filled.{Filled}
 use Rattle.filled.proofs.Filled.{filled_none, filled_more, filled_first}
 use Rattle.partition.specs.Partition.{Led}
 use Rattle.partition.proofs.Leading.{led_begun}

@@ -4,7 +4,6 @@ use mathlib.Core.Path.{◌≡◌}
 use mathlib.Core.List.{List}
 use Rattle.filled.specs.Filled.{Filled}
 use Prim.Native.Nat.{◌-◌}
-use Rattle.partition.specs.Partition.{Led}
 use Rattle.partition.proofs.lead_by_first.Given as goal
 
 -- row 0 leads the rows below q, and the others of them follow it

@@ -7,7 +7,8 @@ use Rattle.planes.specs.Marks.{Marked}
 use Rattle.presence.proofs.mark_sets.Given as goal
 
 abbrev pub invariant-loop-q : goal.invariant-loop-q
-invariant-loop-q l = Marked (LaidSet l.sets l.q) l.initial.plane l.plane × (length l.plane ≡ length l.initial.plane) × (l.q ≤ l.end)
+invariant-loop-q l =
+    Marked (LaidSet l.sets l.q) l.initial.plane l.plane × (length l.plane ≡ length l.initial.plane) × (l.q ≤ l.end)
 
 abbrev pub decreases-loop-q : goal.decreases-loop-q
 decreases-loop-q l = l.end - l.q

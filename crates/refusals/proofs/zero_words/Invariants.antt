@@ -7,7 +7,9 @@ use lib.ListN.{length, drop, replicate}
 use Rattle.refusals.proofs.zero_words.Given as goal
 
 abbrev pub invariant-loop-i : goal.invariant-loop-i
-invariant-loop-i l = (l.i ≤ length l.work) × (length l.work ≡ length l.initial.work) × (l.work ≡ replicate l.i 0 ++ drop l.i l.initial.work)
+invariant-loop-i l =
+    (l.i ≤ length l.work) × (length l.work ≡ length l.initial.work)
+    × (l.work ≡ replicate l.i 0 ++ drop l.i l.initial.work)
 
 abbrev pub decreases-loop-i : goal.decreases-loop-i
 decreases-loop-i l = length l.work - l.i

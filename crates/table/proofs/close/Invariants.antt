@@ -8,7 +8,9 @@ use Rattle.table.proofs.Closing.{ClosedBelow}
 use Rattle.table.proofs.close.Given as goal
 
 abbrev pub invariant-loop-k : goal.invariant-loop-k
-invariant-loop-k l = (l.k ≤ l.n) × (length l.words ≡ length l.initial.words) × ((ws : List ℕ) → ClosedBelow l.n l.initial.k ws l.initial.words → ClosedBelow l.n l.k ws l.words)
+invariant-loop-k l =
+    (l.k ≤ l.n) × (length l.words ≡ length l.initial.words)
+    × ((ws : List ℕ) → ClosedBelow l.n l.initial.k ws l.initial.words → ClosedBelow l.n l.k ws l.words)
 
 abbrev pub decreases-loop-k : goal.decreases-loop-k
 decreases-loop-k l = l.n - l.k

@@ -1,9 +1,9 @@
-use Rattle.std.proofs.Common.{arith, refl, rules, subst}
+use Rattle.std.proofs.Common.{refl, rules, subst}
 use Rattle.columns.proofs.Test.{is_if_le, is_if_not_le}
 use Rattle.std.proofs.KnownBytes.{Appends-nil}
 use Rattle.std.specs.Io.KnownBytes.{Appends}
 use Rattle.text.proofs.Fronts.{is_front, no_front}
-use Rattle.text.specs.Written.{AppendsFirst, front}
+use Rattle.text.specs.Written.{AppendsFirst}
 use Rattle.text.proofs.write.Goals as goal
 
 pub returns-in_err-write_all-clause-torn : goal.returns-in_err-write_all-clause-torn

@@ -1,7 +1,6 @@
 -- `verify::verify` meets its contract.
-use mathlib.Core.Path.{sym, ap, ◌∙◌}
+use mathlib.Core.Path.{sym, ◌∙◌}
 use native.Mathlib.Omega.{arith}
-use Rattle.model.specs.Reply.{open_reply}
 use Rattle.packed.proofs.Opening.{opened}
 use Rattle.verify.proofs.Laws.{catalogue_number, catalogue_refused, list_refused, list_opened}
 use Rattle.verify.proofs.verify.Goals as goal

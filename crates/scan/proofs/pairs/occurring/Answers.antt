@@ -1,7 +1,7 @@
 -- The answers of `scan::pairs::occurring`.
 use Prim.Native.Nat.{ℕ, ◌-◌}
 use native.Mathlib.Omega.{arith}
-use lib.ListN.{length, length-replicate}
+use lib.ListN.{length-replicate}
 use Rattle.model.specs.Bounds.{row_bound}
 use Rattle.classes.specs.Classes.{bytes_size}
 use Rattle.scan.proofs.Seeing.{seen_none, seen_more, seen_all, sets_small}

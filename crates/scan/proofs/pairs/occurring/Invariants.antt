@@ -7,7 +7,8 @@ use Rattle.scan.proofs.Seeing.{SeenBefore}
 use Rattle.scan.proofs.pairs.occurring.Given as goal
 
 abbrev pub invariant-loop-x : goal.invariant-loop-x
-invariant-loop-x l = (l.x ≤ l.end) × SeenBefore l.keys l.n l.end l.x l.seen × (length l.low ≡ row_bound) × (length l.high ≡ row_bound)
+invariant-loop-x l =
+    (l.x ≤ l.end) × SeenBefore l.keys l.n l.end l.x l.seen × (length l.low ≡ row_bound) × (length l.high ≡ row_bound)
     × (length l.line ≡ row_bound)
 
 abbrev pub decreases-loop-x : goal.decreases-loop-x

@@ -2,7 +2,6 @@
 use Prim.Native.Nat.{ℕ, ◌-◌, ◌^◌}
 use mathlib.Core.Path.{ap, ◌∙◌}
 use native.Mathlib.Omega.{arith}
-use Rattle.model.specs.Catalogue.{tables}
 use Rattle.model.proofs.Check.{accepted_tables, accepted_visible}
 use Rattle.model.proofs.Listing.{cells_length}
 use Rattle.walk.proofs.Places.{passing_none, passing_on, passing_found}
