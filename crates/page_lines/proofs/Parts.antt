@@ -5,9 +5,8 @@ use mathlib.Core.List.{List, [], ◌∷◌, ◌++◌, append-nil}
 use native.Mathlib.Numerals.{add-one}
 use lib.ListN.{length, take, get_or}
 use lib.Seq.{take-suc}
-use Rattle.model.specs.Text.{decimal, tables_word, sets_word, entries_word, refused_word, line_feed, entry_text}
-use Rattle.model.specs.Text.{entry_line}
-use Rattle.model.specs.Text.{lines_of, head_line, refused_line}
+use Rattle.model.specs.Text.{decimal, tables_word, sets_word, entries_word, refused_word, line_feed}
+use Rattle.model.specs.Text.{entry_text, entry_line, lines_of, head_line, refused_line}
 use Rattle.model.specs.declared.Entry.{Entry}
 use Rattle.model.proofs.Text.{lines_append}
 use Rattle.text.specs.Puts.{Puts}

@@ -10,14 +10,14 @@ use Rattle.page_lines.proofs.Parts.{puts_no_line, puts_line_more}
 use Rattle.page_lines.proofs.put_run.Goals as goal
 
 pub loop-i-init : goal.loop-i-init
-loop-i-init c = (search rules, search rules, search rules, puts_no_line c.args.t3.run _ _)
+loop-i-init c = (search rules, search rules, search rules, puts_no_line c.args.filled.run _ _)
 
 pub loop-i-preserved : goal.loop-i-preserved
 loop-i-preserved c = (
   search rules,
   search rules,
   search rules,
-  puts_line_more c.args.t3.run
+  puts_line_more c.args.filled.run
       c.loop-i.i _ (omega arith)
       c.loop-i.invariant.3 c.put_line-next.ensures,
 )
@@ -25,5 +25,5 @@ loop-i-preserved c = (
 pub returns : goal.returns
 returns c =
     let all : c.loop-i.i ≡ c.args.count = omega arith in
-    puts_same (ap (λ (k : ℕ). lines_of (take k c.args.t3.run)) all)
+    puts_same (ap (λ (k : ℕ). lines_of (take k c.args.filled.run)) all)
     c.loop-i.invariant.3

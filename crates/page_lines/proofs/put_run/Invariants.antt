@@ -7,8 +7,7 @@ use Rattle.text.specs.Puts.{Puts}
 use Rattle.page_lines.proofs.put_run.Given as goal
 
 abbrev pub invariant-loop-i : goal.invariant-loop-i
-invariant-loop-i l =
-    (length l.out ≡ length l.initial.out) × (l.n ≡ l.count) × (l.i ≤ l.n)
+invariant-loop-i l = (length l.out ≡ length l.initial.out) × (l.n ≡ l.count) × (l.i ≤ l.n)
     × Puts (lines_of (take l.i l.filled.run)) l.at l.initial.out l.out l.next
 
 abbrev pub decreases-loop-i : goal.decreases-loop-i

@@ -16,7 +16,7 @@ returns-then-code-ne0 c =
     let check = c.check_code-code in
     paged_as (answer_refused _ check.result (omega arith) check.ensures
     c.if-code-ne0.true)
-    (paged_alone _ (refused_line check.result) c.before.before.Put-refused.ensures
+    (paged_alone _ (refused_line check.result) c.put_refused-len.ensures
     (omega (arith, refused_short check.result (omega arith))))
 
 pub returns : goal.returns
