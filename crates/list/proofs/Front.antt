@@ -7,7 +7,7 @@ use borrow.Rule.Slice.PartMut.{put_mid, same_len_mid}
 use Rattle.std.proofs.KnownBytes.{Appends-nil}
 use Rattle.std.specs.Io.KnownBytes.{Appends, Consumes, IsAtEnd}
 use mathlib.Core.Logic.{⊎_elim}
-use Rattle.core.specs.declared.option.Option.{Option}
+use Rattle.std.specs.declared.option.Option.{Option}
 use Rattle.model.specs.Bounds.{file_bound}
 use Rattle.model.specs.Text.{answer_text}
 use Rattle.model.proofs.Calls.{le_or_lt}

@@ -1,7 +1,7 @@
 -- What a writer holds, where that is known, after some bytes were written to it.
 use Rattle.std.specs.Prelude.{ℕ, List, [], length, take}
 use Rattle.std.specs.Io.KnownBytes.{Appends}
-use Rattle.core.specs.declared.option.Option.{Option}
+use Rattle.std.specs.declared.option.Option.{Option}
 use Rattle.columns.specs.Test.{if_le}
 
 -- known bytes grow by some of the bytes, from the first on
