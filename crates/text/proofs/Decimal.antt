@@ -1,5 +1,6 @@
 -- A number's digits, as std spells them, are its decimal text.
-use Rattle.std.proofs.Common.{ℕ, zero, suc, ◌+◌, ◌/◌, ◌%◌, ◌^◌, ◌<◌, ◌≤◌, ◌≡◌, [], ◌∷◌, ◌++◌, ap, ◌∙◌, arith, ◌-◌, eq-zero-or-pos, inl, inr}
+use Rattle.std.proofs.Common.{ℕ, zero, suc, ◌+◌, ◌/◌, ◌%◌, ◌^◌, ◌<◌, ◌≤◌, ◌≡◌, [], ◌∷◌, ◌++◌, ap, ◌∙◌, arith, ◌-◌}
+use Rattle.std.proofs.Common.{eq-zero-or-pos, inl, inr}
 use Rattle.std.specs.Fmt.{decimal as spelt}
 use Rattle.std.proofs.lemmas.Fmt.{decimal_digit, decimal_step}
 use Rattle.columns.proofs.Test.{is_if_lt, is_if_not_lt}

@@ -1,5 +1,6 @@
 -- The first bytes of some, and what a writer holds after them.
-use Rattle.std.proofs.Common.{ℕ, ◌+◌, ◌≤◌, ◌<◌, ◌≡◌, List, [], ◌++◌, length, take, drop, ap, sym, ◌∙◌, arith, length-drop, ◌-◌}
+use Rattle.std.proofs.Common.{ℕ, ◌+◌, ◌≤◌, ◌<◌, ◌≡◌, List, [], ◌++◌, length, take, drop, ap, sym, ◌∙◌, arith}
+use Rattle.std.proofs.Common.{length-drop, ◌-◌}
 use Rattle.std.proofs.Math.Seq.{take-add, take_all}
 use Rattle.columns.proofs.Test.{if_le_yes, if_le_no}
 use Rattle.text.specs.Written.{front}
