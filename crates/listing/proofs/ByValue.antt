@@ -5,7 +5,7 @@ use native.Mathlib.Omega.{arith}
 use native.Mathlib.Nat.{zero-add, suc-add}
 use mathlib.Core.Logic.{◌⊎◌, inl, inr}
 use mathlib.Core.List.{List, ◌∷◌, ◌++◌}
-use lib.ListN.{length, take, drop, replicate, length-replicate}
+use lib.ListN.{length, take, drop, replicate, length-replicate, length-append}
 use lib.Seq.{take_at, drop_at}
 use Rattle.columns.proofs.Test.{if_lt_yes, if_lt_no}
 use Rattle.model.specs.Entry.{entry}
@@ -43,6 +43,17 @@ pub run_parts : (room : ℕ) → replicate run_bound zeros ≡ fresh room ++ res
 run_parts room =
     let e : cap room + (run_bound - cap room) ≡ run_bound = omega (arith, cap_within room) in
     ap (λ (n : ℕ). replicate n zeros) (sym e) ∙ replicate_add (cap room) (run_bound - cap room) zeros
+
+pub run_length : (room : ℕ) (ys : List Entry) → length ys ≡ length (fresh room) → length (ys ++ rest room) ≡ run_bound
+run_length room ys e =
+    omega (
+      arith,
+      length-append ys (rest room),
+      length-replicate (cap room) zeros,
+      length-replicate
+          (run_bound - cap room) zeros,
+      cap_within room,
+    )
 
 pub filled_by : (cat : List ℕ) (place budget room : ℕ) (words : List ℕ) (a : ListAnswer) (ys : List Entry) (ws : List ℕ)
     → length ys ≡ length (fresh room) → ListMeaning cat (seen place budget (fresh room) words (list_reply a) ys ws)

@@ -1,11 +1,11 @@
 -- The loop of `list`, over plain values: where it stands before each turn, what a turn that puts an entry does to it,
 -- and what it shows when nothing is left. It looks into no definition of specs/Meaning.antt of `walk`, so a change
 -- there leaves it as it is.
-use Prim.Native.Nat.{ℕ, zero, suc, ◌+◌, ◌≤◌, ◌<◌}
+use Prim.Native.Nat.{ℕ, zero, suc, ◌+◌, ◌-◌, ◌≤◌, ◌<◌}
 use native.Mathlib.Omega.{arith}
 use mathlib.Core.Path.{◌≡◌, refl, sym, ◌∙◌, ap, ap₂, subst}
 use mathlib.Core.List.{List, [], ◌∷◌, ◌++◌, append-nil, append_assoc}
-use lib.ListN.{length, drop, set, length-append}
+use lib.ListN.{length, drop, set, length-append, length-drop}
 use Rattle.columns.proofs.Test.{if_eq_yes, if_eq_no}
 use Rattle.model.specs.Calls.{run_after}
 use Rattle.model.specs.Reply.{reply_of, list_reply}
@@ -17,7 +17,7 @@ use Rattle.steps.specs.declared.Stepped.TheVariants.{Put, Done}
 use Rattle.model.specs.Listing.{Listing, cells}
 use Rattle.model.specs.List.{first_code, CallMeaning}
 use Rattle.walk.specs.Meaning.{Good}
-use Rattle.steps.specs.Steps.{due, to_put, reply_to, WordsBegun, Went, whole, values}
+use Rattle.steps.specs.Steps.{due, to_put, reply_to, WordsBegun, Begins, Went, whole, values}
 use Rattle.model.specs.Calls.{seen}
 use Rattle.steps.proofs.Stepping.{kept_after}
 use Rattle.listing.proofs.Lists.{set_next}
@@ -42,9 +42,25 @@ module _ (l : Listing) (code : ℕ) (es : List Entry) (vs : List ℕ) (run : Lis
     pub written : ys ≡ run_with put
     pub facts : Facts s put now
 
+  pub begun : (s : Stepped) (now : List ℕ) → Begins l code es vs (length run) words s now
+      → length now ≡ length words → Facts s [] now
+  begun s now b k =
+      record {
+        all = b.put;
+        fits = subst (λ (z : List Entry). length z ≤ length run) b.put b.fits;
+        reply = b.reply;
+        same = k;
+        kept = b.kept;
+      }
+
   pub put_within : (put : List Entry) (s : Stepped) (now : List ℕ) → Facts s put now
       → length put + length (to_put l s) ≤ length run
   put_within put s now f = omega (arith, length-append put (to_put l s), ap length f.all, f.fits)
+
+  pub run_with_length : (put : List Entry) (s : Stepped) (now : List ℕ) → Facts s put now
+      → length (run_with put) ≡ length run
+  run_with_length put s now f =
+      omega (arith, length-append put (drop (length put) run), length-drop (length put) run, put_within put s now f)
 
   module _ (put : List Entry) (now : List ℕ) (e : Entry) (w : Walk) (f : Facts (Put e w) put now) where
     pub room_left : length put < length run
@@ -55,6 +71,9 @@ module _ (l : Listing) (code : ℕ) (es : List Entry) (vs : List ℕ) (run : Lis
 
     pub one_more : length put + 1 ≡ length (put ++ e ∷ [])
     one_more = sym (length-append put (e ∷ []))
+
+    pub nearer : length run - length (put ++ e ∷ []) < length run - length put
+    nearer = omega (arith, room_left, length-append put (e ∷ []))
 
     pub no_ground : code ≡ 0
     no_ground = f.kept.0

@@ -1,11 +1,11 @@
 -- Reading from an index on into a run, over plain values: what is planned for a file, and the run while the entries are
 -- stored, one after the other.
-use Prim.Native.Nat.{ℕ, zero, suc, ◌+◌, ◌-◌, ◌*◌, ◌<◌}
+use Prim.Native.Nat.{ℕ, zero, suc, ◌+◌, ◌-◌, ◌*◌, ◌≤◌, ◌<◌}
 use mathlib.Core.Path.{◌≡◌, refl, sym, ap, ◌∙◌}
 use mathlib.Core.List.{List, [], ◌∷◌, ◌++◌}
 use native.Mathlib.Decide.{ℕ_discrete}
 use native.Mathlib.Omega.{arith}
-use lib.ListN.{length, take, drop, set}
+use lib.ListN.{length, take, drop, set, length-append, length-drop}
 use lib.Seq.{take-nil, drop-nil}
 use Rattle.columns.proofs.Test.{if_eq_yes, if_eq_no, is_if_eq, is_if_ne}
 use Rattle.model.specs.Calls.{run_after}
@@ -71,6 +71,10 @@ module _ (file : List ℕ) where
   pub filled_none : (p : ℕ) (run : List Entry) → filled p run 0 ≡ run
   unfolding entries_from
   filled_none p run = refl
+
+  pub filled_length : (p : ℕ) (run : List Entry) (n : ℕ) → n ≤ length run → length (filled p run n) ≡ length run
+  filled_length p run n h =
+      omega (arith, length-append (entries_from file n p) (drop n run), length_from file n p, length-drop n run)
 
   set_next : (p : ℕ) (run : List Entry) (n : ℕ) {e : Entry} → n < length run → e ≡ entry_at file (p + entry_bytes * n)
       → set (filled p run n) n e ≡ filled p run (suc n)
