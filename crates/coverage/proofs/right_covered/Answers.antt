@@ -30,5 +30,5 @@ all_covered-requires c =
 
 pub returns : goal.returns
 returns c v en there =
-    right_covered_is v _ _ _ _ _ _ _ c.args.backed.now c.args.keys.now _ _ c.right_at-c.ensures
+    right_covered_is v _ _ _ _ _ _ _ c.args.backed.now c.args.keys.now _ _ c.right_at-right.ensures
     c.requires.0 en there c.requires.8 c.close_lefts.ensures c.close_sets.ensures c.all_covered.ensures
