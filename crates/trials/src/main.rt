@@ -3,12 +3,12 @@
 
 mod print;
 mod sizes;
-mod steps;
+mod stepwise;
 
 use print::{trial, trial_on};
 use sizes::{check, trial_sizes};
 use std::io;
-use steps::trial_steps;
+use stepwise::trial_steps;
 use trial_kit::{ALBUM, EMPTY, LONE, MISSING_TWICE, THREE, TWO_KEYS};
 
 // The whole listing, at the least and at the largest budget.

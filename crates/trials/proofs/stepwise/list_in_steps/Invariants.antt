@@ -1,6 +1,6 @@
 -- Each call that is answered moves the place on; the measure is the number of places left.
 use Rattle.std.proofs.Common.{◌-◌, ◌≤◌}
-use Rattle.trials.proofs.steps.list_in_steps.Given as goal
+use Rattle.trials.proofs.stepwise.list_in_steps.Given as goal
 
 abbrev pub invariant-loop-held : goal.invariant-loop-held
 invariant-loop-held l = l.calls ≤ l.held
