@@ -29,7 +29,6 @@ use Rattle.walk.specs.Walks.{First, Passes, cell_of}
 use Rattle.passing.specs.declared.Walk.{Walk}
 use Rattle.steps.specs.declared.Stepped.{Stepped}
 use Rattle.steps.specs.declared.Stepped.TheVariants.{Done}
-use Rattle.passing.specs.declared.Reached.TheVariants.{At, Stop}
 use Rattle.steps.proofs.Stepping.{kept_after}
 use Rattle.walk.proofs.Places.{drop_here, drop_inside}
 use Rattle.walk.proofs.Walks.{ahead_next, cell_here}
@@ -154,7 +153,7 @@ module _ (before : ℕ) (l : Listing) (place budget room : ℕ) (words : List �
             ∙ ap₂ (λ (k n : ℕ). answered ((place + passed budget room (drop place (cells l))) ∷ k ∷ n ∷ []))
             (omega arith) (omega arith)
 
-        pub begin_short : (after : List ℕ) → Passes l w Stop after → length after ≡ length words → (zeroed : List ℕ)
+        pub begin_short : (after : List ℕ) → Passes l w None after → length after ≡ length words → (zeroed : List ℕ)
             → zeroed ≡ replicate (length after) 0
             → Began before l place budget room words (Done (answer.Refused RunTooShort)) zeroed
         unfolding due reply_of work_after
@@ -170,7 +169,7 @@ module _ (before : ℕ) (l : Listing) (place budget room : ℕ) (words : List �
                   z ∙ ap (λ (k : ℕ). replicate k 0) same ∙ sym (rw e (if_eq_no _ (λ q. omega arith) ∙ if_eq_yes _ refl));
             }
 
-        pub begin_walks : (v : Walk) (after : List ℕ) → Passes l w (At v) after → length after ≡ length words
+        pub begin_walks : (v : Walk) (after : List ℕ) → Passes l w (Some v) after → length after ≡ length words
             → (s : Stepped) (now : List ℕ) → Went l v after s now → Began before l place budget room words s now
         unfolding due reply_of
         begin_walks v after h same s now g =

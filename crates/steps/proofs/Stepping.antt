@@ -14,7 +14,6 @@ use Rattle.model.specs.declared.ListAnswer.TheVariants as answer
 use Rattle.walk.specs.Meaning.{ahead, final, Good}
 use Rattle.walk.specs.Walks.{Same, Goes}
 use Rattle.passing.specs.declared.Walk.{Walk}
-use Rattle.passing.specs.declared.Reached.TheVariants.{At, Stop}
 use Rattle.walk.proofs.Places.{chosen_lt}
 use Rattle.steps.specs.Putting.{Puttable, put_from}
 use Rattle.steps.specs.Steps.{WordsBegun, WordsStepped, Went}
@@ -41,7 +40,7 @@ module _ (l : Listing) (w : Walk) (words : List ℕ) where
   stepping_begun g = record { good = g; same = record { put = refl; reply = refl }; length = refl }
 
   module _ (v : Walk) (now : List ℕ) (s : Stepping l w v words now) where
-    pub stepping_on : (u : Walk) (after : List ℕ) → Goes l v (At u) after → length after ≡ length now
+    pub stepping_on : (u : Walk) (after : List ℕ) → Goes l v (Some u) after → length after ≡ length now
         → Stepping l w u words after
     stepping_on u after g k =
         record {
@@ -51,7 +50,7 @@ module _ (l : Listing) (w : Walk) (words : List ℕ) where
         }
 
     -- nothing is left
-    pub step_done : (after : List ℕ) → Goes l v Stop after → (zeroed : List ℕ) → zeroed ≡ replicate (length after) 0
+    pub step_done : (after : List ℕ) → Goes l v None after → (zeroed : List ℕ) → zeroed ≡ replicate (length after) 0
         → length after ≡ length now → Went l w words (Done (answer.Listed v.place v.passed v.count)) zeroed
     step_done after g zeroed z k =
         record {

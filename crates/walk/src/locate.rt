@@ -26,19 +26,15 @@ fn find(cat: &[u8], place: u32) -> Spot
     requires place_bound { place < sets_of cat.now }
     ensures { Found (ordinary cat.now) place result.target result.index }
 {
-    let mut target: u32 = 0;
     let mut index = place;
-    loop {
+    for target in 0..u32::from(layout::tables(cat)) {
         let here = power(layout::visible(cat, target));
         if index < here {
-            return Spot {
-                target: target,
-                index: index,
-            };
+            return Spot { target, index };
         }
         index -= here;
-        target += 1;
     }
+    unreachable!()
 }
 
 // The set at an index of the order of n columns.
@@ -66,14 +62,14 @@ pub fn first(cat: &[u8], place: u32, budget: u32, room: usize) -> Walk
     let n = layout::visible(cat, target);
     let left = set_at(n, s.index);
     Walk {
-        target: target,
-        left: left,
+        target,
+        left,
         members: n,
         held: Held::Table,
         own: 0,
-        place: place,
-        budget: budget,
-        room: room,
+        place,
+        budget,
+        room,
         passed: 0,
         count: 0,
         pending: 0,
