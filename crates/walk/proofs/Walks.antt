@@ -14,8 +14,6 @@ use Rattle.columns.proofs.Membership.{members_own}
 use Rattle.columns.specs.Order.{in_order, next_of}
 use Rattle.columns.specs.Set.{members_of}
 use Rattle.columns.specs.declared.ColumnSet.{ColumnSet}
-use Rattle.columns.specs.declared.SetOrNone.{SetOrNone}
-use Rattle.columns.specs.declared.SetOrNone.TheVariants.{Set, Nothing}
 use Rattle.model.specs.Bounds.{table_bound, work_bound}
 use Rattle.model.specs.Calls.{passed, written}
 use Rattle.model.specs.Listing.{Listing, width_of, cells, Bounded}
@@ -260,7 +258,7 @@ module _ (l : Listing) (w : Walk) (words : List ℕ) (g : Good l w words) (nothi
   good_few = g.sound.bounded.members w.target good_target
 
   -- what the set answers as its next is the next of its number
-  next_of_lem : {r : SetOrNone} → next_of w.members (members_of w.left) ≡ r → next_of (width_of l w.target) w.left
+  next_of_lem : {r : Option ColumnSet} → next_of w.members (members_of w.left) ≡ r → next_of (width_of l w.target) w.left
       ≡ r
   next_of_lem e =
       let s = g.stands in
@@ -281,7 +279,7 @@ module _ (l : Listing) (w : Walk) (words : List ℕ) (g : Good l w words) (nothi
         count = refl;
       }
 
-  pub follow_within : (y : ColumnSet) → 0 < w.budget → next_of w.members (members_of w.left) ≡ Set y
+  pub follow_within : (y : ColumnSet) → 0 < w.budget → next_of w.members (members_of w.left) ≡ Some y
       → Follows l w (Some (moved_to w w.target y.bits w.members w.held w.own)) words
   follow_within y some e =
       moved_after w.target y.bits w.members w.held w.own words some
@@ -289,7 +287,7 @@ module _ (l : Listing) (w : Walk) (words : List ℕ) (g : Good l w words) (nothi
       g.sound.members (g.ready some) refl
 
   pub follow_target : (n : ℕ) (held : Held) (own t : ℕ) (after : List ℕ) → 0 < w.budget
-      → next_of w.members (members_of w.left) ≡ Nothing → t ≡ w.target + 1 → t < l.targets → n ≡ width_of l t
+      → next_of w.members (members_of w.left) ≡ None → t ≡ w.target + 1 → t < l.targets → n ≡ width_of l t
       → Ready l t held own after → length after ≡ length words → Follows l w (Some (moved_to w t 0 n held own)) after
   follow_target n held own t after some e q h v ready same =
       moved_after t 0 n held own after some
@@ -297,7 +295,7 @@ module _ (l : Listing) (w : Walk) (words : List ℕ) (g : Good l w words) (nothi
       (next_target l w.target w.left w.place g.stands good_few (next_of_lem e) (omega arith)))
       v ready same
 
-  pub follow_none : (after : List ℕ) → next_of w.members (members_of w.left) ≡ Nothing → l.targets ≤ w.target + 1
+  pub follow_none : (after : List ℕ) → next_of w.members (members_of w.left) ≡ None → l.targets ≤ w.target + 1
       → Follows l w None after
   follow_none after e h =
       next_none l w.target w.left w.place g.stands good_few

@@ -10,7 +10,7 @@ ghost use Rattle.walk.specs.Places.{Found};
 ghost use Rattle.walk.specs.Walks.{First};
 
 use bits::power;
-use columns::{ColumnSet, SetOrNone};
+use columns::ColumnSet;
 use passing::{Held, Walk};
 
 // A target, and an index in the order of its sets.
@@ -43,10 +43,7 @@ fn set_at(n: u32, index: u32) -> u32
     requires index_bound { index < 2 ^ n }
     ensures { result ≡ get_or (in_order n) index 0 }
 {
-    match ColumnSet::at(n, index) {
-        SetOrNone::Set(s) => s.bits,
-        SetOrNone::Nothing => ColumnSet::EMPTY.bits,
-    }
+    ColumnSet::at(n, index).unwrap().bits
 }
 
 // The walk at the set that stands at a place. What it says of the work words and of rights means nothing yet.

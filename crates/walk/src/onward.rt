@@ -6,7 +6,7 @@ ghost use Rattle.rights.specs.Ready.{Ready};
 ghost use Rattle.walk.specs.Meaning.{Good};
 ghost use Rattle.walk.specs.Walks.{Fresh, moved_to, Passes, Follows, Goes};
 
-use columns::{ColumnSet, SetOrNone};
+use columns::ColumnSet;
 use passing::{Walk, passed};
 use rights::Entered;
 
@@ -62,8 +62,8 @@ fn following(cat: &[u8], w: Walk, work: &mut [u32]) -> Option<Walk>
 {
     let here = ColumnSet { bits: w.left };
     match here.next(w.members) {
-        SetOrNone::Set(s) => { Some(Walk { left: s.bits, ..w }) }
-        SetOrNone::Nothing => {
+        Some(s) => { Some(Walk { left: s.bits, ..w }) }
+        None => {
             let target = w.target + 1;
             let n = layout::tables(cat) as u32;
             if n <= target {

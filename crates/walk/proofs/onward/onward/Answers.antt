@@ -25,7 +25,7 @@ pass-requires c = record {
 pub returns-in_err-v : goal.returns-in_err-v
 returns-in_err-v c =
     rw c.from_residual.ensures
-    (stopped_end (ordinary c.args.cat.now) c.args.w c.requires.pending_value (c.in_err-v.ensures tt))
+    (stopped_end (ordinary c.args.cat.now) c.args.w c.requires.pending_value c.in_err-v.ensures)
 
 pub returns : goal.returns
 returns c =
