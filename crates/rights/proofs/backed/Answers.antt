@@ -1,7 +1,8 @@
--- `rights::backed_bit` meets its contract, whatever the words hold.
+-- `rights::backed` meets its contract, whatever the words hold.
 use Prim.Native.Nat.{ℕ, ◌+◌}
 use mathlib.Core.Path.{sym, ap, subst, ◌∙◌}
 use native.Mathlib.Omega.{arith}
+use Rattle.std.specs.Prelude.{eqb}
 use lib.Pow.{pow_mono}
 use Rattle.columns.specs.Set.{bit}
 use Rattle.table.specs.Words.{word}
@@ -11,7 +12,7 @@ use Rattle.planes.proofs.Backed.{two_planes}
 use Rattle.passing.specs.declared.Held.{Held}
 use Rattle.rights.specs.Ready.{Readable, BackedBy}
 use Rattle.rights.proofs.Held.{table_backed, seeds_backed}
-use Rattle.rights.proofs.backed_bit.Goals as goal
+use Rattle.rights.proofs.backed.Goals as goal
 
 pub bounds-work-left : goal.bounds-work-left
 bounds-work-left c =
@@ -38,7 +39,7 @@ returns-in-Table c =
     let s = c in
     let words = s.args.work.now in
     subst (λ (held : Held). BackedBy s.args.n s.args.left held words
-    (bit (word words s.args.left) (s.args.n + 1)))
+    (eqb (bit (word words s.args.left) (s.args.n + 1)) 1))
     (sym c.in-Table.is)
     (table_backed s.args.n s.args.left words s.requires.1)
 
@@ -46,7 +47,7 @@ pub returns-in-Seeds : goal.returns-in-Seeds
 returns-in-Seeds c =
     let s = c in
     let words = s.args.work.now in
-    subst (λ (held : Held). BackedBy s.args.n s.args.left held words c.bit_at.result)
+    subst (λ (held : Held). BackedBy s.args.n s.args.left held words (eqb c.bit_at.result 1))
     (sym c.in-Seeds.is)
     (seeds_backed s.args.n s.args.left _ words s.requires.1
     (c.bit_at.ensures ∙ ap (λ (p : ℕ). plane_bit words (p + s.args.left)) c.power.ensures))
