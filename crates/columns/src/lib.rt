@@ -26,13 +26,6 @@ pub struct ColumnSet {
     pub bits: u32,
 }
 
-// A set, or 'none'.
-#[derive(Clone, Copy)]
-pub enum SetOrNone {
-    Set(ColumnSet),
-    Nothing,
-}
-
 // Bit k of x.
 fn bit(x: u32, k: u32) -> u32
     requires { k < 32 }
@@ -60,13 +53,13 @@ impl ColumnSet {
     }
 
     // The full set of n columns; 'none' for n over the bound.
-    pub fn full(n: u32) -> SetOrNone
+    pub fn full(n: u32) -> Option<ColumnSet>
         ensures { result ≡ full_of n }
     {
         if COLUMN_BOUND < n {
-            return SetOrNone::Nothing;
+            return None;
         }
-        SetOrNone::Set(ColumnSet { bits: power(n) - 1 })
+        Some(ColumnSet { bits: power(n) - 1 })
     }
 
     // Is column k a member? A column at or above the bound is none.
@@ -133,41 +126,41 @@ impl ColumnSet {
     // The next set of n columns in listing order: 'none' after the full set, for a set with a member at or above n,
     // and for n over the bound. The highest one of the lowest run of ones moves up by a bit, and the others of that
     // run go down to the end. Where no bit is free above, the next size begins.
-    pub fn next(self, n: u32) -> SetOrNone
+    pub fn next(self, n: u32) -> Option<ColumnSet>
         ensures { result ≡ next_of n (members_of self.bits) }
     {
         if COLUMN_BOUND < n {
-            return SetOrNone::Nothing;
+            return None;
         }
         let bits = self.bits;
         let x = members(bits);
         let end = power(n);
         if end <= x {
-            return SetOrNone::Nothing;
+            return None;
         }
         let s = u32::count_ones(x);
         if 0 < x {
             let r = x + power(u32::trailing_zeros(x));
             if r < end {
                 let low = power(s - u32::count_ones(r)) - 1;
-                return SetOrNone::Set(ColumnSet { bits: r + low });
+                return Some(ColumnSet { bits: r + low });
             }
         }
         if s < n {
-            return SetOrNone::Set(ColumnSet {
+            return Some(ColumnSet {
                 bits: power(s + 1) - 1,
             });
         }
-        SetOrNone::Nothing
+        None
     }
 
     // The set at an index of the listing order of n columns: 'none' at or past 2^n, and for n over the bound.
     // It passes whole sizes, then looks inside one.
-    pub fn at(n: u32, index: u32) -> SetOrNone
+    pub fn at(n: u32, index: u32) -> Option<ColumnSet>
         ensures { result ≡ at_of n index }
     {
         if COLUMN_BOUND < n {
-            return SetOrNone::Nothing;
+            return None;
         }
         let mut rows = [[0; SIZES]; SIZES];
         count_sets(&mut rows, n);
@@ -176,14 +169,14 @@ impl ColumnSet {
         while k <= n {
             let c = rows[n as usize][k as usize];
             if left < c {
-                return SetOrNone::Set(ColumnSet {
+                return Some(ColumnSet {
                     bits: of_size_at(&rows, n, k, left),
                 });
             }
             left -= c;
             k += 1;
         }
-        SetOrNone::Nothing
+        None
     }
 }
 

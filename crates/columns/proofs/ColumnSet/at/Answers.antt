@@ -1,4 +1,5 @@
 -- The answers of `columns::ColumnSet::at`.
+use Rattle.std.specs.Prelude.{Some}
 use Prim.Native.Nat.{ℕ, ◌-◌}
 use mathlib.Core.Path.{◌≡◌, refl, sym, ap, ◌∙◌}
 use mathlib.Core.List.{[]}
@@ -6,7 +7,6 @@ use native.Mathlib.Omega.{arith}
 use lib.ListN.{length, get_or}
 use Rattle.columns.specs.Set.{set_of}
 use Rattle.columns.specs.Order.{of_size, at_of}
-use Rattle.columns.specs.declared.SetOrNone.TheVariants.{Set}
 use Rattle.columns.proofs.Test.{is_if_le, is_if_not_le}
 use Rattle.columns.proofs.Unrank.{passed_none, passed_more, passed_found, passed_all}
 use Rattle.columns.proofs.ColumnSet.at.Lts as lts
@@ -61,7 +61,7 @@ returns-then-left-c c =
     let l = c.loop-k.invariant in
     let h = c.loop-k-test.true in
     is_if_le _ l.0
-    (ap (λ (x : ℕ). Set (set_of x)) c.of_size_at.ensures
+    (ap (λ (x : ℕ). Some (set_of x)) c.of_size_at.ensures
     ∙ sym (passed_found _ _ _ _ (omega arith)
     (omega (arith, c.if-left-c.true, number c.before.before.before.before)) l.2))
 

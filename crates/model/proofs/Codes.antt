@@ -1,9 +1,11 @@
--- A refusal's number is 1 to the last one's, and a number in that range that no later refusal has is the first one's.
-use Prim.Native.Nat.{ℕ, zero, suc, ◌≤◌}
-use mathlib.Core.Path.{◌≡◌, sym, ap}
+-- Laws of the code of a test that may refuse: a refusal's number is 1 to the last one's, so a code of 0 says that the test
+-- passed; and tests tried in order, where the first that refuses is the answer.
+use Prim.Native.Nat.{ℕ, ◌≤◌}
+use mathlib.Core.Path.{◌≡◌}
 use native.Mathlib.Omega.{arith}
 use lib.Dec.{lit≤}
-use Rattle.model.specs.Refusal.{number, last_refusal}
+use Rattle.std.specs.Prelude.{Result, Ok, Err}
+use Rattle.model.specs.Refusal.{number, last_refusal, code_of, or_else}
 use Rattle.model.specs.declared.Refusal.{Refusal}
 use Rattle.model.specs.declared.Refusal.TheVariants.{FileTooShort, BadTrailer, BadExtent, TableTooLarge}
 use Rattle.model.specs.declared.Refusal.TheVariants.{BadParentTable, TooManyVisible, BadParentRow, UnknownTable}
@@ -11,10 +13,7 @@ use Rattle.model.specs.declared.Refusal.TheVariants.{UnknownColumn, UnknownRight
 use Rattle.model.specs.declared.Refusal.TheVariants.{RunTooShort, NoList, BadEntry, OutputTooShort}
 use Rattle.model.specs.declared.Refusal.TheVariants.{FalseRecord, UnsoundEntry, UncoveredSet}
 use Rattle.model.specs.declared.Refusal.TheVariants.{BadText, UnfitText, NoRoom}
-
--- the same refusal, the same number
-pub same_number : {r s : Refusal} → r ≡ s → number s ≡ number r
-same_number e = ap number (sym e)
+use Rattle.model.proofs.Grounds.{is_this, is_next}
 
 pub number_range : (r : Refusal) → (1 ≤ number r) × (number r ≤ last_refusal)
 number_range FileTooShort = (lit≤ tt, lit≤ tt)
@@ -40,14 +39,12 @@ number_range BadText = (lit≤ tt, lit≤ tt)
 number_range UnfitText = (lit≤ tt, lit≤ tt)
 number_range NoRoom = (lit≤ tt, lit≤ tt)
 
--- the code is none of 2 to suc n, and X holds besides
-abbrev pub NoneOf : Type 0 → ℕ → ℕ → Type 0
-NoneOf X code zero = X
-NoneOf X code (suc n) = NoneOf X code n × (code ≡ suc (suc n) → ⊥)
+pub number_pos : (r : Refusal) → number r ≡ 0 → ⊥
+number_pos r e = omega (arith, number_range r)
 
-pub first_left : (X : Type 0) (code n : ℕ) → 1 ≤ code → code ≤ suc n → NoneOf X code n → code ≡ 1
-first_left X code zero l h none = omega arith
-first_left X code (suc n) l h none = first_left X code n l (below code n h none.1) none.0
-  where
-    below : (code n : ℕ) → code ≤ suc (suc n) → (code ≡ suc (suc n) → ⊥) → code ≤ suc n
-    below code n h d = omega arith
+-- of two tests the first refuses, and the first passes; `a` is what the first one's code must be
+pub refused_first : {a : ℕ} (r : Refusal) (b : ℕ) → number r ≡ a → number r ≡ or_else a b
+refused_first r b e = is_this b e (number_pos r)
+
+pub passed_first : {a b : ℕ} {x : ℕ} → 0 ≡ a → x ≡ b → x ≡ or_else a b
+passed_first {a} e f = is_next a (omega arith) f
