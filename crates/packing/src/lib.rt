@@ -4,9 +4,9 @@
 
 ghost use Rattle.std.specs.Prelude.{◌+◌, ◌≤◌, ◌≡◌, ◌++◌, length, drop};
 ghost use Rattle.std.proofs.lemmas.List.Edits.{sets};
+ghost use Rattle.model.specs.Refusal.{code_of};
 ghost use Rattle.model.specs.Entries.{entry_bytes, bytes_of, entries_code};
 ghost use Rattle.model.specs.Packing.{distance_of, output_code, packed};
-ghost use Rattle.packing.specs.Packing.{code_of};
 
 use entries::fine_after;
 use file::{put_u16, put_u32};
