@@ -1,9 +1,9 @@
--- `grounds::bound_code` meets its contract: columns first, then rows.
+-- `grounds::check_bounds` meets its contract: columns first, then rows.
 use mathlib.Core.Path.{refl}
 use native.Mathlib.Omega.{arith}
 use Rattle.columns.proofs.Test.{is_if_lt, is_if_not_lt}
 use Rattle.model.specs.Check.{bound_code}
-use Rattle.grounds.proofs.bound_code.Goals as goal
+use Rattle.grounds.proofs.check_bounds.Goals as goal
 
 pub returns-then-c-gt-COLUMN_BOUND : goal.returns-then-c-gt-COLUMN_BOUND
 unfolding bound_code

@@ -1,9 +1,9 @@
--- `grounds::extent_code` meets its contract.
+-- `grounds::check_extent` meets its contract.
 use mathlib.Core.Path.{refl}
 use native.Mathlib.Omega.{arith}
 use Rattle.columns.proofs.Test.{is_if_le, is_if_not_le}
 use Rattle.model.specs.Check.{extent_code}
-use Rattle.grounds.proofs.extent_code.Goals as goal
+use Rattle.grounds.proofs.check_extent.Goals as goal
 
 pub returns-then-table_end-end : goal.returns-then-table_end-end
 unfolding extent_code

@@ -1,9 +1,9 @@
--- `grounds::head_code` meets its contract: the two tests in order.
+-- `grounds::check_head` meets its contract: the two tests in order.
 use mathlib.Core.Path.{refl}
 use native.Mathlib.Omega.{arith}
 use Rattle.columns.proofs.Test.{is_if_eq, is_if_ne, is_if_le, is_if_not_le}
 use Rattle.model.specs.Check.{head_code}
-use Rattle.grounds.proofs.head_code.Goals as goal
+use Rattle.grounds.proofs.check_head.Goals as goal
 
 pub returns-then-at-start_of : goal.returns-then-at-start_of
 unfolding head_code

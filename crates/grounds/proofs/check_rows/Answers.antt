@@ -1,38 +1,25 @@
--- The answers of `grounds::rows_code`.
-use Prim.Native.Nat.{◌-◌}
+-- The answers of `grounds::check_rows`.
 use mathlib.Core.Path.{sym, ◌∙◌}
 use native.Mathlib.Omega.{arith}
+use Rattle.model.proofs.Codes.{handed_on, number_pos}
 use Rattle.grounds.proofs.First.{none_below_zero, none_below_more, first_found, none_found}
-use Rattle.grounds.proofs.Starts.{next_row, row_code_is}
-use borrow.Author.Rules.{rules}
-use Rattle.grounds.proofs.rows_code.Goals as goal
+use Rattle.grounds.proofs.Starts.{row_start, row_code_is}
+use Rattle.grounds.proofs.check_rows.Goals as goal
 
 pub loop-k-init : goal.loop-k-init
-loop-k-init c = (none_below_zero _ _, search rules, search rules, search rules, search rules)
+loop-k-init c = none_below_zero _ _
 
-pub returns-then-code-ne0 : goal.returns-then-code-ne0
-returns-then-code-ne0 c =
-    let now-at = c.loop-k in
-    let table = c in
-    let e =
-    row_code_is _ _ now-at.k c.row_code-code.ensures c.u16_at.ensures now-at.invariant.3
-    table.rows-above.ensures table.parent-p.ensures in
-    first_found _ now-at.k _ now-at.invariant.0 (omega arith) e c.if-code-ne0.true
+pub returns-in_err-check_row : goal.returns-in_err-check_row
+returns-in_err-check_row c =
+    let at = row_start _ _ c.loop-k.k c.row_at-first.ensures.is c.columns.ensures in
+    let e = row_code_is _ _ c.loop-k.k c.in_err-check_row.ensures c.u16_at.ensures at c.rows-above.ensures (c.from.ensures ∙ c.parent.ensures) in
+    handed_on _ _ c.from_residual.ensures.1 (first_found _ _ _ c.loop-k.invariant (omega arith) e (number_pos _))
 
 pub loop-k-preserved : goal.loop-k-preserved
 loop-k-preserved c =
-    let now-at = c.loop-k in
-    let table = c in
-    let args = table.args in
-    let e =
-    row_code_is _ _ now-at.k c.row_code-code.ensures c.u16_at.ensures now-at.invariant.3
-    table.rows-above.ensures table.parent-p.ensures in (
-      none_below_more _ now-at.k _ now-at.invariant.0 (omega arith) (sym e ∙ omega arith),
-      search rules,
-      search rules,
-      omega (arith, next_row args.cat.now args.table now-at.k),
-      search rules,
-    )
+    let at = row_start _ _ c.loop-k.k c.row_at-first.ensures.is c.columns.ensures in
+    let e = row_code_is _ _ c.loop-k.k c.in_ok-check_row.ensures c.u16_at.ensures at c.rows-above.ensures (c.from.ensures ∙ c.parent.ensures) in
+    none_below_more _ _ _ c.loop-k.invariant (omega arith) (sym e)
 
 pub returns : goal.returns
-returns c = none_found _ c.loop-k.k _ c.loop-k.invariant.0 (omega arith)
+returns c = none_found _ _ _ c.loop-k.invariant (omega arith)

@@ -1,22 +1,19 @@
--- The answers of `grounds::tables_code`.
-use Prim.Native.Nat.{◌-◌}
+-- The answers of `grounds::check_tables`.
 use native.Mathlib.Omega.{arith}
+use Rattle.model.proofs.Codes.{handed_on, number_pos}
 use Rattle.grounds.proofs.First.{none_below_zero, none_below_more, first_found, none_found}
-use borrow.Author.Rules.{rules}
-use Rattle.grounds.proofs.tables_code.Goals as goal
+use Rattle.grounds.proofs.check_tables.Goals as goal
 
 pub loop-table-init : goal.loop-table-init
-loop-table-init c = (none_below_zero _ _, search rules, search rules)
+loop-table-init c = none_below_zero _ _
 
-pub returns-then-code-ne0 : goal.returns-then-code-ne0
-returns-then-code-ne0 c =
-    let now-at = c.loop-table in
-    first_found _ now-at.table _ now-at.invariant.0 (omega arith) c.table_code-code.ensures c.if-code-ne0.true
+pub returns-in_err-check_table : goal.returns-in_err-check_table
+returns-in_err-check_table c =
+    handed_on _ _ c.from_residual.ensures.1
+    (first_found _ _ _ c.loop-table.invariant (omega arith) c.in_err-check_table.ensures (number_pos _))
 
 pub loop-table-preserved : goal.loop-table-preserved
-loop-table-preserved c =
-    let now-at = c.loop-table in
-    (none_below_more _ now-at.table _ now-at.invariant.0 (omega arith) (omega arith), search rules, search rules)
+loop-table-preserved c = none_below_more _ _ _ c.loop-table.invariant (omega arith) (omega arith)
 
 pub returns : goal.returns
-returns c = none_found _ c.loop-table.table _ c.loop-table.invariant.0 (omega arith)
+returns c = none_found _ _ _ c.loop-table.invariant (omega arith)

@@ -1,9 +1,9 @@
--- `grounds::width_code` meets its contract.
+-- `grounds::check_width` meets its contract.
 use mathlib.Core.Path.{refl}
 use native.Mathlib.Omega.{arith}
 use Rattle.columns.proofs.Test.{is_if_lt, is_if_not_lt}
 use Rattle.model.specs.Check.{width_code}
-use Rattle.grounds.proofs.width_code.Goals as goal
+use Rattle.grounds.proofs.check_width.Goals as goal
 
 pub returns-then-visible-gt-COLUMN_BOUND : goal.returns-then-visible-gt-COLUMN_BOUND
 unfolding width_code
