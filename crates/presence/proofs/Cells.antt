@@ -14,9 +14,9 @@ use Rattle.columns.proofs.SetBelow.{set_below_same, set_below_split, set_below_l
 use Rattle.presence.specs.Cells.{joined_from}
 
 -- a test as a number
-pub test_small : (b : Bool) → bool_byte b ≤ 1
-test_small true = omega arith
-test_small false = omega arith
+pub test_small : {r : ℕ} (b : Bool) → r ≡ bool_byte b → r ≤ 1
+test_small true e = omega arith
+test_small false e = omega arith
 
 pub test_pick : (b : Bool) → bool_byte b ≡ pick b 1 0
 test_pick true = refl

@@ -29,8 +29,7 @@ overflow_add-joined c =
       arith,
       joining_small (present_cell c.args.cat.now c.args.from) c.args.c c.args.set l.j l.joined (omega arith) l.invariant
           c.requires.1 c.requires.2,
-      c.from.ensures,
-      test_small (not (eqb c.code_at-present.result missing)),
+      test_small _ c.from.ensures,
     )
 
 pub loop-j-preserved : goal.loop-j-preserved
