@@ -1,10 +1,10 @@
 -- Laws of the code of a test that may refuse: a refusal's number is 1 to the last one's, so a code of 0 says that the test
 -- passed; and tests tried in order, where the first that refuses is the answer.
 use Prim.Native.Nat.{ℕ, ◌≤◌}
-use mathlib.Core.Path.{◌≡◌}
+use mathlib.Core.Path.{◌≡◌, ap, ◌∙◌}
 use native.Mathlib.Omega.{arith}
 use lib.Dec.{lit≤}
-use Rattle.std.specs.Prelude.{Result, Ok, Err}
+use Rattle.std.specs.Prelude.{Result, Ok, Err, IsErrAnd}
 use Rattle.model.specs.Refusal.{number, last_refusal, code_of, or_else}
 use Rattle.model.specs.declared.Refusal.{Refusal}
 use Rattle.model.specs.declared.Refusal.TheVariants.{FileTooShort, BadTrailer, BadExtent, TableTooLarge}
@@ -48,3 +48,13 @@ refused_first r b e = is_this b e (number_pos r)
 
 pub passed_first : {a b : ℕ} {x : ℕ} → 0 ≡ a → x ≡ b → x ≡ or_else a b
 passed_first {a} e f = is_next a (omega arith) f
+
+-- what `?` gives back: the code of the test that refused, which comes first of two
+pub handed_on : {A : Type 0} (r : Result A Refusal) (why : Refusal) {a : ℕ}
+    → IsErrAnd r (λ e. e ≡ why) → number why ≡ a → code_of r ≡ a
+handed_on (Ok x) why h e = absurd h
+handed_on (Err y) why h e = ap number h ∙ e
+
+pub handed_first : {A : Type 0} (r : Result A Refusal) (why : Refusal) {a : ℕ} (b : ℕ)
+    → IsErrAnd r (λ e. e ≡ why) → number why ≡ a → code_of r ≡ or_else a b
+handed_first r why b h e = handed_on r why h (refused_first _ b e)
