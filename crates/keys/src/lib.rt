@@ -10,9 +10,7 @@ mod column;
 ghost use Rattle.std.specs.Prelude.{ℕ, ◌+◌, ◌-◌, ◌*◌, ◌^◌, ◌≤◌, ◌<◌, ◌≡◌, length, get_or};
 ghost use Rattle.columns.specs.Bound.{column_bound};
 ghost use Rattle.model.specs.Bounds.{row_bound};
-ghost use Rattle.model.specs.Catalogue.{tables, rows as rows_of, visible};
-ghost use Rattle.model.specs.Check.{Accepted};
-ghost use Rattle.model.specs.Target.{view};
+ghost use Rattle.layout.specs.Targets.{view_of, members_in, rows_in};
 ghost use Rattle.leaders.specs.Keys.{keys_size, LaidFor, Keyed};
 ghost use Rattle.keys.specs.Column.{LaidTable};
 
@@ -20,7 +18,7 @@ use bits::power;
 use climb::{code_at, own_rows, parent_rows, short_at};
 use column::{fill_words, put_keys};
 use grouping::group;
-use layout::{rows, trailer};
+use layout::{Target, trailer};
 use leaders::{ROWS, SIZE};
 
 // Lays the members of a set among the c columns of the table at o, the last first, where the first is member low and
@@ -54,21 +52,18 @@ fn lay_table(
 
 // Lays the keys of the members in a set, table by table from the target up to the last that has one: the key of a row
 // on a member is the lowest row that agrees with it there.
-pub fn lay(cat: &[u8], target: u32, n: u32, set: u32, keys: &mut [u16; SIZE])
-    requires accepted { Accepted cat.now }
-    requires target_bound { target < tables cat.now }
-    requires n_value { n ≡ visible cat.now target }
-    requires keys_len { length keys.old ≡ keys_size }
-    ensures { (length keys.new ≡ keys_size)
-        × LaidFor (view cat.now target) set keys.new }
+pub fn lay(target: Target, set: u32, keys: &mut [u16; SIZE])
+    requires { length keys.old ≡ keys_size }
+    ensures { (length keys.new ≡ keys_size) × LaidFor (view_of target.entry) set keys.new }
 {
+    let cat = target.cat;
     let first = trailer(cat) as usize;
-    let end = rows(cat, target) as usize;
+    let end = target.rows();
     let mut reached = [0; ROWS];
     own_rows(end, &mut reached);
-    let mut at = target as usize;
-    let mut above = n as usize;
-    loop {
+    let mut at = target.table as usize;
+    let mut above = target.members() as usize;
+    'climb: loop {
         let o = code_at(cat, first + 4 * at) as usize;
         let c = short_at(cat, o) as usize;
         above -= c;
@@ -81,13 +76,11 @@ pub fn lay(cat: &[u8], target: u32, n: u32, set: u32, keys: &mut [u16; SIZE])
     }
 }
 
-// Lays the keys of all members of a target with n visible columns.
-pub fn lay_all(cat: &[u8], target: u32, n: u32, all: &mut [u16; SIZE])
-    requires accepted { Accepted cat.now }
-    requires target_bound { target < tables cat.now }
-    requires n_value { n ≡ visible cat.now target }
-    requires all_len { length all.old ≡ keys_size }
-    ensures { Keyed (view cat.now target) (2 ^ n - 1) n (rows_of cat.now target) all.new }
+// Lays the keys of all members of a target.
+pub fn lay_all(target: Target, all: &mut [u16; SIZE])
+    requires { length all.old ≡ keys_size }
+    ensures { Keyed (view_of target.entry) (2 ^ members_in target.entry - 1) (members_in target.entry) (rows_in target.entry)
+        all.new }
 {
-    lay(cat, target, n, power(n) - 1, all);
+    lay(target, power(target.members()) - 1, all);
 }

@@ -8,10 +8,8 @@ ghost use Rattle.std.specs.Prelude.{ℕ, ◌+◌, ◌*◌, ◌^◌, ◌≤◌, �
 ghost use Rattle.columns.specs.Bound.{column_bound};
 ghost use Rattle.columns.specs.Set.{set_below};
 ghost use Rattle.model.specs.Bounds.{row_bound};
-ghost use Rattle.model.specs.Catalogue.{tables, rows as rows_of, visible};
-ghost use Rattle.model.specs.Check.{Accepted};
 ghost use Rattle.model.specs.View.{View, backed};
-ghost use Rattle.model.specs.Target.{view};
+ghost use Rattle.layout.specs.Targets.{view_of, members_in, rows_in};
 ghost use Rattle.table.specs.Words.{word};
 ghost use Rattle.table.specs.Backed.{present_set_of, PresentSets, LaidSet, SetsNoted};
 ghost use Rattle.planes.specs.Marks.{RoomFor, Marked};
@@ -20,7 +18,7 @@ ghost use Rattle.presence.specs.Cells.{present_cell};
 
 use bits::power;
 use climb::{code_at, short_at};
-use layout::{rows, trailer};
+use layout::{Target, trailer};
 use model::{MISSING, ROWS};
 use planes::{PLANE, mark};
 
@@ -82,21 +80,19 @@ fn join_cells(cat: &[u8], from: usize, c: usize, set: u32) -> u32
     joined
 }
 
-// The members whose cells are present in row p of a target with n visible columns: table by table from the target up to
-// the root, by the rows that p leads to.
-fn present_set(cat: &[u8], target: u32, n: u32, p: usize) -> u32
-    requires accepted { Accepted cat.now }
-    requires target_bound { target < tables cat.now }
-    requires n_value { n ≡ visible cat.now target }
-    requires p_bound { p < rows_of cat.now target }
-    ensures { result ≡ present_set_of (view cat.now target) p }
+// The members whose cells are present in row p of a target: table by table from the target up to the root, by the rows
+// that p leads to.
+fn present_set(target: Target, p: usize) -> u32
+    requires { p < rows_in target }
+    ensures { result ≡ present_set_of (view_of target.entry) p }
 {
+    let cat = target.cat;
     let first = trailer(cat) as usize;
-    let mut at = target as usize;
+    let mut at = target.table as usize;
     let mut row = p;
-    let mut above = n as usize;
+    let mut above = target.members() as usize;
     let mut set: u32 = 0;
-    loop {
+    'climb: loop {
         let o = code_at(cat, first + 4 * at) as usize;
         let c = short_at(cat, o) as usize;
         above -= c;
@@ -111,27 +107,21 @@ fn present_set(cat: &[u8], target: u32, n: u32, p: usize) -> u32
 }
 
 // The sets of all rows of a target.
-pub fn lay(cat: &[u8], target: u32, n: u32, sets: &mut [u32; ROWS])
-    requires accepted { Accepted cat.now }
-    requires target_bound { target < tables cat.now }
-    requires n_value { n ≡ visible cat.now target }
-    requires sets_len { length sets.old ≡ row_bound }
-    ensures { PresentSets (view cat.now target) n (rows_of cat.now target)
-        sets.new }
+pub fn lay(target: Target, sets: &mut [u32; ROWS])
+    requires { length sets.old ≡ row_bound }
+    ensures { PresentSets (view_of target.entry) (members_in target.entry) (rows_in target.entry) sets.new }
 {
-    for q in 0..rows(cat, target) as usize {
-        sets[q] = present_set(cat, target, n, q);
+    for q in 0..target.rows() {
+        sets[q] = present_set(target, q);
     }
 }
 
 // The plane of the backed left sides of a target, among the sets of m columns.
-pub fn backed_plane(cat: &[u8], target: u32, n: u32, m: u32, plane: &mut [u32])
-    requires accepted { Accepted cat.now }
-    requires target_bound { target < tables cat.now }
-    requires n_value { (n ≡ visible cat.now target) × (n ≤ m) × RoomFor m plane.old }
-    ensures { BackedPlane (view cat.now target) plane.new }
+pub fn backed_plane(target: Target, m: u32, plane: &mut [u32])
+    requires { (members_in target ≤ m) × RoomFor m plane.old }
+    ensures { BackedPlane (view_of target.entry) plane.new }
 {
     let mut sets = [0; ROWS];
-    lay(cat, target, n, &mut sets);
-    close_rows(&sets, rows(cat, target) as usize, m, plane);
+    lay(target, &mut sets);
+    close_rows(&sets, target.rows(), m, plane);
 }

@@ -9,43 +9,43 @@ use Rattle.keys.proofs.lay.Goals as goal
 
 pub own_rows-requires : goal.own_rows-requires
 own_rows-requires c = (
-  omega (arith, c.rows-end.ensures, accepted_rows _ c.requires.accepted c.args.target c.requires.target_bound),
+  omega (arith, c.rows-end.ensures.is, accepted_rows _ c.args.target.accepted c.args.target.table c.args.target.known),
   refl,
 )
 
-pub loop-reached-init : goal.loop-reached-init
-loop-reached-init c =
-    laying_begun _ _ _ _ _ _ _ _ c.requires.target_bound c.requires.n_value c.rows-end.ensures refl c.requires.keys_len
+pub climb-init : goal.climb-init
+climb-init c =
+    laying_begun _ _ _ _ _ _ _ _ c.args.target.known c.members-above.ensures.is c.rows-end.ensures.is refl c.requires
     c.own_rows.ensures
 
 pub overflow_mul-at : goal.overflow_mul-at
 overflow_mul-at c =
     omega (
       arith,
-      entry_read _ c.requires.accepted c.loop-reached.invariant.table c.trailer-first.ensures,
+      entry_read _ c.args.target.accepted c.climb.invariant.table c.trailer-first.ensures,
     )
 
 pub overflow_add-first : goal.overflow_add-first
 overflow_add-first c =
     omega (
       arith,
-      entry_read _ c.requires.accepted c.loop-reached.invariant.table c.trailer-first.ensures,
+      entry_read _ c.args.target.accepted c.climb.invariant.table c.trailer-first.ensures,
     )
 
 pub code_at-o-requires : goal.code_at-o-requires
 code_at-o-requires c =
-    entry_read _ c.requires.accepted c.loop-reached.invariant.table c.trailer-first.ensures
+    entry_read _ c.args.target.accepted c.climb.invariant.table c.trailer-first.ensures
 
 pub short_at-c-requires : goal.short_at-c-requires
 short_at-c-requires c =
     omega (
       arith,
-      head_read _ c.requires.accepted c.loop-reached.invariant.table c.trailer-first.ensures c.code_at-o.ensures,
+      head_read _ c.args.target.accepted c.climb.invariant.table c.trailer-first.ensures c.code_at-o.ensures,
     )
 
 pub overflow_sub-above : goal.overflow_sub-above
 overflow_sub-above c =
-    own_left _ c.requires.accepted c.loop-reached.invariant c.trailer-first.ensures
+    own_left _ c.args.target.accepted c.climb.invariant c.trailer-first.ensures
     c.code_at-o.ensures c.short_at-c.ensures
 
 pub lay_table-requires : goal.lay_table-requires
@@ -54,45 +54,45 @@ lay_table-requires c = record {
     omega arith,
     omega (
       arith,
-      own_left _ c.requires.accepted c.loop-reached.invariant c.trailer-first.ensures
+      own_left _ c.args.target.accepted c.climb.invariant c.trailer-first.ensures
           c.code_at-o.ensures c.short_at-c.ensures,
-      few_left _ c.requires.accepted c.loop-reached.invariant c.trailer-first.ensures
+      few_left _ c.args.target.accepted c.climb.invariant c.trailer-first.ensures
           c.code_at-o.ensures c.short_at-c.ensures,
     ),
-    omega (arith, c.rows-end.ensures, accepted_rows _ c.requires.accepted c.args.target c.requires.target_bound),
-    c.loop-reached.invariant.long,
+    omega (arith, c.rows-end.ensures.is, accepted_rows _ c.args.target.accepted c.args.target.table c.args.target.known),
+    c.climb.invariant.long,
   );
   by_index = λ q h.
-      rows_within _ c.requires.accepted c.loop-reached.invariant c.trailer-first.ensures
+      rows_within _ c.args.target.accepted c.climb.invariant c.trailer-first.ensures
       c.code_at-o.ensures c.short_at-c.ensures q
-      (omega (arith, c.rows-end.ensures));
+      (omega (arith, c.rows-end.ensures.is));
 }
 
 pub power-requires : goal.power-requires
 power-requires c =
     omega (
       arith,
-      few_left _ c.requires.accepted c.loop-reached.invariant c.trailer-first.ensures
+      few_left _ c.args.target.accepted c.climb.invariant c.trailer-first.ensures
           c.code_at-o.ensures c.short_at-c.ensures,
     )
 
 pub returns-then-set-power-eq0 : goal.returns-then-set-power-eq0
 returns-then-set-power-eq0 c = (
-  c.lay_table.ensures.same_length ∙ c.loop-reached.invariant.long,
-  laying_done _ c.requires.accepted c.loop-reached.invariant c.trailer-first.ensures
-      c.code_at-o.ensures c.short_at-c.ensures _ _ c.rows-end.ensures c.lay_table.ensures
+  c.lay_table.ensures.same_length ∙ c.climb.invariant.long,
+  laying_done _ c.args.target.accepted c.climb.invariant c.trailer-first.ensures
+      c.code_at-o.ensures c.short_at-c.ensures _ _ c.rows-end.ensures.is c.lay_table.ensures
       (ap (λ (x : ℕ). c.args.set % x) (sym c.power.ensures) ∙ c.if-set-power-eq0.true),
 )
 
 pub parent_rows-requires : goal.parent_rows-requires
 parent_rows-requires c = record {
-  end_le_row_bound = (omega (arith, c.rows-end.ensures, accepted_rows _ c.requires.accepted c.args.target c.requires.target_bound), c.loop-reached.invariant.wide);
+  end_le_row_bound = (omega (arith, c.rows-end.ensures.is, accepted_rows _ c.args.target.accepted c.args.target.table c.args.target.known), c.climb.invariant.wide);
   by_index = λ q h.
       omega (
         arith,
-        rows_within _ c.requires.accepted c.loop-reached.invariant c.trailer-first.ensures
+        rows_within _ c.args.target.accepted c.climb.invariant c.trailer-first.ensures
             c.code_at-o.ensures c.short_at-c.ensures q
-            (omega (arith, c.rows-end.ensures)),
+            (omega (arith, c.rows-end.ensures.is)),
       );
 }
 
@@ -100,18 +100,18 @@ pub short_at-at-requires : goal.short_at-at-requires
 short_at-at-requires c =
     omega (
       arith,
-      head_read _ c.requires.accepted c.loop-reached.invariant.table c.trailer-first.ensures c.code_at-o.ensures,
+      head_read _ c.args.target.accepted c.climb.invariant.table c.trailer-first.ensures c.code_at-o.ensures,
     )
 
-pub loop-reached-smaller : goal.loop-reached-smaller
-loop-reached-smaller c =
-    parent_lower _ c.requires.accepted c.loop-reached.invariant c.trailer-first.ensures
+pub climb-smaller : goal.climb-smaller
+climb-smaller c =
+    parent_lower _ c.args.target.accepted c.climb.invariant c.trailer-first.ensures
     c.code_at-o.ensures c.short_at-c.ensures _ c.short_at-at.ensures
     (λ e. c.if-set-power-eq0.false (ap (λ (x : ℕ). c.args.set % x) c.power.ensures ∙ e))
 
-pub loop-reached-preserved : goal.loop-reached-preserved
-loop-reached-preserved c =
-    laying_next _ c.requires.accepted c.loop-reached.invariant c.trailer-first.ensures
-    c.code_at-o.ensures c.short_at-c.ensures _ _ _ _ c.rows-end.ensures c.lay_table.ensures
+pub climb-preserved : goal.climb-preserved
+climb-preserved c =
+    laying_next _ c.args.target.accepted c.climb.invariant c.trailer-first.ensures
+    c.code_at-o.ensures c.short_at-c.ensures _ _ _ _ c.rows-end.ensures.is c.lay_table.ensures
     (λ e. c.if-set-power-eq0.false (ap (λ (x : ℕ). c.args.set % x) c.power.ensures ∙ e))
     c.short_at-at.ensures c.parent_rows.ensures

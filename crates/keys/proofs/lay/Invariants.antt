@@ -2,8 +2,8 @@
 use Rattle.keys.proofs.Laying.{Laying}
 use Rattle.keys.proofs.lay.Given as goal
 
-abbrev pub invariant-loop-reached : goal.invariant-loop-reached
-invariant-loop-reached l = Laying l.cat l.target l.set l.at l.above l.reached l.keys
+abbrev pub invariant-climb : goal.invariant-climb
+invariant-climb l = Laying l.cat l.target.table l.set l.at l.above l.reached l.keys
 
-abbrev pub decreases-loop-reached : goal.decreases-loop-reached
-decreases-loop-reached l = l.at
+abbrev pub decreases-climb : goal.decreases-climb
+decreases-climb l = l.at

@@ -1,21 +1,16 @@
 -- `keys::lay_all` meets its contract: a mask of all members.
+use mathlib.Core.Path.{refl, ap, ◌∙◌}
+use Prim.Native.Nat.{ℕ, ◌^◌}
 use native.Mathlib.Omega.{arith}
 use lib.Pow.{pow_pos}
-use Rattle.model.proofs.Check.{accepted_visible}
 use Rattle.keys.proofs.Catalogue.{laid_all}
 use Rattle.keys.proofs.lay_all.Goals as goal
 
-pub power-requires : goal.power-requires
-power-requires c =
-    let s = c in
-    omega (arith, s.requires.n_value, accepted_visible s.args.cat.now s.requires.accepted s.args.target s.requires.target_bound)
-
 pub overflow_sub-power : goal.overflow_sub-power
-overflow_sub-power c = omega (arith, c.power.ensures, pow_pos c.args.n)
+overflow_sub-power c = omega (arith, c.power.ensures, pow_pos c.members.result)
 
 pub returns : goal.returns
 returns c =
-    let s = c in
-    laid_all s.args.cat.now s.args.target s.args.n c.power.result _ s.requires.accepted
-    s.requires.target_bound s.requires.n_value
-    c.power.ensures c.lay.ensures.1
+    let t = c.args.target in
+    laid_all t.cat.now t.table _ c.power.result _ t.accepted t.known refl
+    (c.power.ensures ∙ ap (λ (n : ℕ). 2 ^ n) c.members.ensures.is) c.lay.ensures.1

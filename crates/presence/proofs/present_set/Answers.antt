@@ -4,62 +4,61 @@ use Rattle.climb.proofs.Table.{entry_read, head_read}
 use Rattle.presence.proofs.Climbing.{climbing_begun, own_left, few_left, set_small, here_within}
 use Rattle.presence.proofs.Climbing.{climbing_done, parent_lower, climbing_next}
 use Rattle.presence.proofs.present_set.Goals as goal
-use Rattle.presence.proofs.present_set.Goals.{At-loop-above, After-code_at-o, After-short_at-c}
 
-pub loop-above-init : goal.loop-above-init
-loop-above-init c = climbing_begun _ _ _ _ c.requires.target_bound c.requires.n_value c.requires.p_bound
+pub climb-init : goal.climb-init
+climb-init c = climbing_begun _ _ _ _ c.args.target.known c.members-above.ensures.is c.requires
 
 pub overflow_mul-at : goal.overflow_mul-at
 overflow_mul-at c =
     omega (
       arith,
-      entry_read _ c.requires.accepted c.loop-above.invariant.table c.trailer-first.ensures,
+      entry_read _ c.args.target.accepted c.climb.invariant.table c.trailer-first.ensures,
     )
 
 pub overflow_add-first : goal.overflow_add-first
 overflow_add-first c =
     omega (
       arith,
-      entry_read _ c.requires.accepted c.loop-above.invariant.table c.trailer-first.ensures,
+      entry_read _ c.args.target.accepted c.climb.invariant.table c.trailer-first.ensures,
     )
 
 pub code_at-o-requires : goal.code_at-o-requires
 code_at-o-requires c =
-    entry_read _ c.requires.accepted c.loop-above.invariant.table c.trailer-first.ensures
+    entry_read _ c.args.target.accepted c.climb.invariant.table c.trailer-first.ensures
 
 pub short_at-c-requires : goal.short_at-c-requires
 short_at-c-requires c =
     omega (
       arith,
-      head_read _ c.requires.accepted c.loop-above.invariant.table c.trailer-first.ensures c.code_at-o.ensures,
+      head_read _ c.args.target.accepted c.climb.invariant.table c.trailer-first.ensures c.code_at-o.ensures,
     )
 
 pub overflow_sub-above : goal.overflow_sub-above
 overflow_sub-above c =
-    own_left _ c.requires.accepted _ c.requires.target_bound c.loop-above.invariant c.trailer-first.ensures
+    own_left _ c.args.target.accepted _ c.args.target.known c.climb.invariant c.trailer-first.ensures
     c.code_at-o.ensures c.short_at-c.ensures
 
-pub overflow_mul-here-in-loop-above : goal.overflow_mul-here-in-loop-above
-overflow_mul-here-in-loop-above c =
+pub overflow_mul-here-in-climb : goal.overflow_mul-here-in-climb
+overflow_mul-here-in-climb c =
     omega (
       arith,
-      here_within _ c.requires.accepted _ c.requires.target_bound c.loop-above.invariant c.trailer-first.ensures
+      here_within _ c.args.target.accepted _ c.args.target.known c.climb.invariant c.trailer-first.ensures
           c.code_at-o.ensures c.short_at-c.ensures,
     )
 
-pub overflow_add-here-in-loop-above-2 : goal.overflow_add-here-in-loop-above-2
-overflow_add-here-in-loop-above-2 c =
+pub overflow_add-here-in-climb-2 : goal.overflow_add-here-in-climb-2
+overflow_add-here-in-climb-2 c =
     omega (
       arith,
-      here_within _ c.requires.accepted _ c.requires.target_bound c.loop-above.invariant c.trailer-first.ensures
+      here_within _ c.args.target.accepted _ c.args.target.known c.climb.invariant c.trailer-first.ensures
           c.code_at-o.ensures c.short_at-c.ensures,
     )
 
-pub overflow_add-here-in-loop-above-3 : goal.overflow_add-here-in-loop-above-3
-overflow_add-here-in-loop-above-3 c =
+pub overflow_add-here-in-climb-3 : goal.overflow_add-here-in-climb-3
+overflow_add-here-in-climb-3 c =
     omega (
       arith,
-      here_within _ c.requires.accepted _ c.requires.target_bound c.loop-above.invariant c.trailer-first.ensures
+      here_within _ c.args.target.accepted _ c.args.target.known c.climb.invariant c.trailer-first.ensures
           c.code_at-o.ensures c.short_at-c.ensures,
     )
 
@@ -67,30 +66,30 @@ pub join_cells-set-requires : goal.join_cells-set-requires
 join_cells-set-requires c = (
   omega (
     arith,
-    here_within _ c.requires.accepted _ c.requires.target_bound c.loop-above.invariant c.trailer-first.ensures
+    here_within _ c.args.target.accepted _ c.args.target.known c.climb.invariant c.trailer-first.ensures
         c.code_at-o.ensures c.short_at-c.ensures,
   ),
   omega (
     arith,
-    own_left _ c.requires.accepted _ c.requires.target_bound c.loop-above.invariant c.trailer-first.ensures
+    own_left _ c.args.target.accepted _ c.args.target.known c.climb.invariant c.trailer-first.ensures
         c.code_at-o.ensures c.short_at-c.ensures,
-    few_left _ c.requires.accepted _ c.requires.target_bound c.loop-above.invariant c.trailer-first.ensures
+    few_left _ c.args.target.accepted _ c.args.target.known c.climb.invariant c.trailer-first.ensures
         c.code_at-o.ensures c.short_at-c.ensures,
   ),
-  set_small _ c.requires.accepted _ c.requires.target_bound c.loop-above.invariant c.trailer-first.ensures
+  set_small _ c.args.target.accepted _ c.args.target.known c.climb.invariant c.trailer-first.ensures
       c.code_at-o.ensures c.short_at-c.ensures,
 )
 
 pub returns-then-above-eq0 : goal.returns-then-above-eq0
 returns-then-above-eq0 c =
-    climbing_done _ c.requires.accepted _ c.requires.target_bound c.loop-above.invariant c.trailer-first.ensures
+    climbing_done _ c.args.target.accepted _ c.args.target.known c.climb.invariant c.trailer-first.ensures
     c.code_at-o.ensures c.short_at-c.ensures c.join_cells-set.ensures c.if-above-eq0.true
 
 pub short_at-row-requires : goal.short_at-row-requires
 short_at-row-requires c =
     omega (
       arith,
-      here_within _ c.requires.accepted _ c.requires.target_bound c.loop-above.invariant c.trailer-first.ensures
+      here_within _ c.args.target.accepted _ c.args.target.known c.climb.invariant c.trailer-first.ensures
           c.code_at-o.ensures c.short_at-c.ensures,
     )
 
@@ -98,16 +97,16 @@ pub short_at-at-requires : goal.short_at-at-requires
 short_at-at-requires c =
     omega (
       arith,
-      head_read _ c.requires.accepted c.loop-above.invariant.table c.trailer-first.ensures c.code_at-o.ensures,
+      head_read _ c.args.target.accepted c.climb.invariant.table c.trailer-first.ensures c.code_at-o.ensures,
     )
 
-pub loop-above-smaller : goal.loop-above-smaller
-loop-above-smaller c =
-    parent_lower _ c.requires.accepted _ c.requires.target_bound c.loop-above.invariant c.trailer-first.ensures
+pub climb-smaller : goal.climb-smaller
+climb-smaller c =
+    parent_lower _ c.args.target.accepted _ c.args.target.known c.climb.invariant c.trailer-first.ensures
     c.code_at-o.ensures c.short_at-c.ensures c.join_cells-set.ensures _ c.short_at-at.ensures c.if-above-eq0.false
 
-pub loop-above-preserved : goal.loop-above-preserved
-loop-above-preserved c =
-    climbing_next _ c.requires.accepted _ c.requires.target_bound c.loop-above.invariant c.trailer-first.ensures
+pub climb-preserved : goal.climb-preserved
+climb-preserved c =
+    climbing_next _ c.args.target.accepted _ c.args.target.known c.climb.invariant c.trailer-first.ensures
     c.code_at-o.ensures c.short_at-c.ensures c.join_cells-set.ensures _ _ c.if-above-eq0.false c.short_at-at.ensures
     c.short_at-row.ensures

@@ -3,8 +3,8 @@
 use Rattle.presence.proofs.Climbing.{Climbing}
 use Rattle.presence.proofs.present_set.Given as goal
 
-abbrev pub invariant-loop-above : goal.invariant-loop-above
-invariant-loop-above l = Climbing l.cat l.target l.p l.at l.row l.above l.set
+abbrev pub invariant-climb : goal.invariant-climb
+invariant-climb l = Climbing l.cat l.target.table l.p l.at l.row l.above l.set
 
-abbrev pub decreases-loop-above : goal.decreases-loop-above
-decreases-loop-above l = l.at
+abbrev pub decreases-climb : goal.decreases-climb
+decreases-climb l = l.at
