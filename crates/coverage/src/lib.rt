@@ -72,7 +72,8 @@ pub fn target_covered(
     backed_plane(cat, target, n, m, &mut backed);
     let mut keys = [0; PLANE];
     close_lefts(list, target, ROW, m, &mut keys);
-    for a in inherited(cat, target)..n + 1 {
+    let low = inherited(cat, target);
+    for a in low..n + 1 {
         if !right_covered(list, records, target, n, m, a, &backed, &keys) {
             return false;
         }
