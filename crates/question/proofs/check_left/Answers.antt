@@ -1,4 +1,4 @@
--- `question::left_side_code` meets its contract: a number has no bit at or above n exactly if shifting it down by n
+-- `question::check_left` meets its contract: a number has no bit at or above n exactly if shifting it down by n
 -- leaves nothing.
 use Prim.Native.Nat.{ℕ, ◌+◌, ◌*◌, ◌/◌, ◌%◌, ◌^◌, ◌≤◌, ◌<◌}
 use mathlib.Core.Path.{◌≡◌, refl, sym, ap, subst, ◌∙◌}
@@ -8,7 +8,7 @@ use native.Mathlib.Omega.{arith}
 use lib.Pow.{pow_pos, pow_mono, split}
 use Rattle.columns.proofs.Test.{is_if_lt, is_if_not_lt}
 use Rattle.model.specs.Question.{left_side_code}
-use Rattle.question.proofs.left_side_code.Goals as goal
+use Rattle.question.proofs.check_left.Goals as goal
 
 short : {x n v : ℕ} → x < 2 ^ 32 → n ≡ v → 32 ≤ n → x < 2 ^ v
 short {n} {v} h e l = let m : 32 ≤ v = omega arith in lt_of_lt_of_le h (pow_mono m)

@@ -1,9 +1,9 @@
--- `question::right_side_code` meets its contract.
+-- `question::check_right` meets its contract.
 use mathlib.Core.Path.{refl}
 use native.Mathlib.Omega.{arith}
 use Rattle.columns.proofs.Test.{is_if_eq, is_if_ne, is_if_lt, is_if_not_lt}
 use Rattle.model.specs.Question.{right_side_code}
-use Rattle.question.proofs.right_side_code.Goals as goal
+use Rattle.question.proofs.check_right.Goals as goal
 
 pub returns-then-right-eq-ROW : goal.returns-then-right-eq-ROW
 unfolding right_side_code

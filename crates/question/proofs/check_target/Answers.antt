@@ -1,9 +1,9 @@
--- `question::target_code` meets its contract.
+-- `question::check_target` meets its contract.
 use mathlib.Core.Path.{refl}
 use native.Mathlib.Omega.{arith}
 use Rattle.columns.proofs.Test.{is_if_lt, is_if_not_lt}
 use Rattle.model.specs.Question.{target_code}
-use Rattle.question.proofs.target_code.Goals as goal
+use Rattle.question.proofs.check_target.Goals as goal
 
 pub returns-then-target-t : goal.returns-then-target-t
 unfolding target_code
