@@ -5,23 +5,25 @@
 // stands for, and on `layout` for how many columns there are. Called by `verify`.
 #![tactic(auto)]
 
-ghost use Rattle.std.specs.Prelude.{◌+◌, ◌*◌, ◌≤◌, ◌<◌, ◌≡◌, true, ◌↔◌, length};
+ghost use Rattle.std.specs.Prelude.{◌≤◌, ◌<◌, ◌≡◌, true, ◌↔◌};
 ghost use Rattle.model.specs.Bounds.{row};
 ghost use Rattle.model.specs.Catalogue.{tables};
 ghost use Rattle.model.specs.Check.{Accepted};
-ghost use Rattle.model.specs.Entries.{entry_bytes, entries_from};
-ghost use Rattle.model.specs.Evidence.{evidence_bytes, records_from, TrueRecord};
+ghost use Rattle.model.specs.Evidence.{TrueRecord};
 ghost use Rattle.model.specs.Verify.{SoundEntries};
 ghost use Rattle.model.specs.View.{View};
 ghost use Rattle.planes.specs.Marks.{RoomFor};
 ghost use Rattle.planes.specs.Plane.{BackedPlane};
 ghost use Rattle.evidence.specs.Lists.{Each};
+ghost use Rattle.evidence.specs.Run.{records_of};
 ghost use Rattle.evidence.specs.Sides.{LeftsWithin, SetsWithin};
 ghost use Rattle.marks.specs.Listed.{LeftsClosed};
+ghost use Rattle.marks.specs.Run.{entries_of};
 ghost use Rattle.coverage.specs.Covered.{RightCovered, TargetCovered};
 
+use evidence::EvidenceRecords;
 use layout::{inherited, visible};
-use marks::{all_covered, close_lefts, close_sets, wide};
+use marks::{PackedEntries, all_covered, close_lefts, close_sets, wide};
 use model::ROW;
 use planes::PLANE;
 use presence::backed_plane;
@@ -29,11 +31,8 @@ use table::right_at;
 
 // Are the sets of n columns that are marked as backed covered for the target and the right of bit a?
 fn right_covered(
-    list: &[u8],
-    count: u32,
-    first: usize,
-    bytes: &[u8],
-    records: usize,
+    list: PackedEntries,
+    records: EvidenceRecords,
     target: u32,
     n: u32,
     m: u32,
@@ -41,20 +40,17 @@ fn right_covered(
     backed: &[u32],
     keys: &[u32],
 ) -> bool
-    requires { (n ≤ m) × (a ≤ n) × RoomFor m backed.now × (first + entry_bytes * count ≤ length list.now)
-        × (evidence_bytes * records ≤ length bytes.now)
-        × LeftsWithin n target (entries_from list.now count first)
-        × SetsWithin n target (records_from bytes.now records 0)
-        × RoomFor m keys.now × LeftsClosed (entries_from list.now count first) target row m keys.now }
+    requires { (n ≤ m) × (a ≤ n) × RoomFor m backed.now
+        × LeftsWithin n target (entries_of list) × SetsWithin n target (records_of records)
+        × RoomFor m keys.now × LeftsClosed (entries_of list) target row m keys.now }
     ensures { (v : View) → v.members ≡ n → BackedPlane v backed.now
-        → (result ≡ true) ↔ RightCovered v (entries_from list.now count first)
-        (records_from bytes.now records 0) target n a }
+        → (result ≡ true) ↔ RightCovered v (entries_of list.entry) (records_of records.entry) target n a }
 {
     let right = right_at(n, a);
     let mut lefts = [0; PLANE];
-    close_lefts(list, count, first, target, right, m, &mut lefts);
+    close_lefts(list, target, right, m, &mut lefts);
     let mut sets = [0; PLANE];
-    close_sets(bytes, records, target, right, m, &mut sets);
+    close_sets(records, target, right, m, &mut sets);
     all_covered(backed, keys, &lefts, &sets, n, m, a)
 }
 
@@ -62,36 +58,25 @@ fn right_covered(
 pub fn target_covered(
     cat: &[u8],
     target: u32,
-    list: &[u8],
-    count: u32,
-    first: usize,
-    bytes: &[u8],
-    records: usize,
+    list: PackedEntries,
+    records: EvidenceRecords,
 ) -> bool
     requires accepted { Accepted cat.now }
     requires target_bound { target < tables cat.now }
-    requires count_in_bounds { (first + entry_bytes * count ≤ length list.now)
-        × (evidence_bytes * records ≤ length bytes.now)
-        × SoundEntries cat.now (entries_from list.now count first)
-        × Each (TrueRecord cat.now) (records_from bytes.now records 0) }
-    ensures { (result ≡ true)
-        ↔ TargetCovered cat.now (entries_from list.now count first)
-        (records_from bytes.now records 0) target }
+    requires sound { SoundEntries cat.now (entries_of list) × Each (TrueRecord cat.now) (records_of records) }
+    ensures { (result ≡ true) ↔ TargetCovered cat.now (entries_of list.entry) (records_of records.entry) target }
 {
     let n = visible(cat, target);
     let m = wide(n);
     let mut backed = [0; PLANE];
     backed_plane(cat, target, n, m, &mut backed);
     let mut keys = [0; PLANE];
-    close_lefts(list, count, first, target, ROW, m, &mut keys);
-    let mut a = inherited(cat, target);
-    while a <= n {
-        if !right_covered(
-            list, count, first, bytes, records, target, n, m, a, &backed, &keys,
-        ) {
+    close_lefts(list, target, ROW, m, &mut keys);
+    let low = inherited(cat, target);
+    for a in low..n + 1 {
+        if !right_covered(list, records, target, n, m, a, &backed, &keys) {
             return false;
         }
-        a += 1;
     }
     true
 }

@@ -7,7 +7,7 @@ use mathlib.Core.Bool.{Bool, true, false, not}
 use native.Mathlib.Nat.{not-suc-le-zero}
 use native.Mathlib.Omega.{arith}
 use borrow.Author.Tests.{not-true, not-false}
-use Rattle.filled.proofs.Below.{below_more}
+pub use Rattle.filled.proofs.Below.{below_more}
 use Rattle.model.proofs.Truth.{true_is, false_is}
 
 pub says_no : {P : Type 0} → (P → ⊥) → (false ≡ true) ↔ P

@@ -7,12 +7,11 @@
 // the right that a bit stands for, and on `layout` for how many rows and columns there are. Called by `verify`.
 #![tactic(auto)]
 
-ghost use Rattle.std.specs.Prelude.{ℕ, ◌+◌, ◌*◌, ◌≤◌, ◌<◌, ◌≡◌, true, ◌↔◌, length};
+ghost use Rattle.std.specs.Prelude.{ℕ, ◌+◌, ◌≤◌, ◌<◌, ◌≡◌, true, ◌↔◌, length};
 ghost use Rattle.columns.specs.Bound.{column_bound};
 ghost use Rattle.model.specs.Bounds.{row};
 ghost use Rattle.model.specs.Catalogue.{tables, visible as visible_of};
 ghost use Rattle.model.specs.Check.{Accepted};
-ghost use Rattle.model.specs.Entries.{entry_bytes, entries_from};
 ghost use Rattle.model.specs.Rights.{right_at};
 ghost use Rattle.model.specs.Target.{view};
 ghost use Rattle.model.specs.View.{View, Equivalence};
@@ -21,15 +20,15 @@ ghost use Rattle.planes.specs.Plane.{SeedsBelow, BackedPlane};
 ghost use Rattle.evidence.specs.Lists.{Each};
 ghost use Rattle.evidence.specs.Sides.{LeftsWithin};
 ghost use Rattle.marks.specs.Listed.{LeftsClosed};
+ghost use Rattle.marks.specs.Run.{entries_of};
 ghost use Rattle.soundness.specs.Sound.{FitsFor, SoundIn, SoundFor};
 
-use entries::entry_from;
 use evidence::sides_fit;
 use keys::lay_all;
 use layout::{inherited, rows, visible};
 use leaders::SIZE;
-use marks::{close_lefts, entries_sound, wide};
-use model::{ENTRY_BYTES, Entry, ROW};
+use marks::{PackedEntries, close_lefts, entries_sound, wide};
+use model::{Entry, ROW};
 use planes::PLANE;
 use presence::backed_plane;
 use scan::sow_among;
@@ -40,46 +39,22 @@ fn fits_for(e: Entry, target: u32, n: u32, low: u32) -> bool
     requires { n ≤ column_bound }
     ensures { (result ≡ true) ↔ FitsFor n low target e }
 {
-    if e.target as u32 != target {
-        return true;
-    }
-    sides_fit(n, low, e.left as u32, e.right as u32)
+    u32::from(e.target) != target || sides_fit(n, low, u32::from(e.left), u32::from(e.right))
 }
 
-// The same for the entries from a position on.
-fn entries_fit(list: &[u8], count: u32, first: usize, target: u32, n: u32, low: u32) -> bool
-    requires { (n ≤ column_bound) × (first + entry_bytes * count ≤ length list.now) }
-    ensures { (result ≡ true) ↔ Each (FitsFor n low target) (entries_from list.now count first) }
+// The same for all entries.
+fn entries_fit(list: PackedEntries, target: u32, n: u32, low: u32) -> bool
+    requires { n ≤ column_bound }
+    ensures { (result ≡ true) ↔ Each (FitsFor n low target) (entries_of list.entry) }
 {
-    let mut at = first;
-    let mut rest = count;
-    while 0 < rest {
-        let e = entry_from(list, at);
-        if !fits_for(e, target, n, low) {
-            return false;
-        }
-        at += ENTRY_BYTES;
-        rest -= 1;
-    }
-    true
+    (0..list.count).all(|i| fits_for(list.entry(i), target, n, low))
 }
 
 // 8: is each entry's target below the number of tables?
-pub fn all_known(list: &[u8], count: u32, first: usize, tables: u32) -> bool
-    requires { first + entry_bytes * count ≤ length list.now }
-    ensures { (result ≡ true) ↔ Each (λ e. e.target < tables) (entries_from list.now count first) }
+pub fn all_known(list: PackedEntries, tables: u32) -> bool
+    ensures { (result ≡ true) ↔ Each (λ e. e.target < tables) (entries_of list.entry) }
 {
-    let mut at = first;
-    let mut rest = count;
-    while 0 < rest {
-        let e = entry_from(list, at);
-        if tables <= e.target as u32 {
-            return false;
-        }
-        at += ENTRY_BYTES;
-        rest -= 1;
-    }
-    true
+    (0..list.count).all(|i| u32::from(list.entry(i).target) < tables)
 }
 
 // The agree sets that occur in the target, as seeds among the sets of m columns.
@@ -98,9 +73,7 @@ fn sow(cat: &[u8], target: u32, n: u32, m: u32, seeds: &mut [u32])
 
 // Are the entries sound that are for the target and the right of bit a?
 fn right_sound(
-    list: &[u8],
-    count: u32,
-    first: usize,
+    list: PackedEntries,
     target: u32,
     n: u32,
     m: u32,
@@ -110,28 +83,23 @@ fn right_sound(
     keys: &[u32],
 ) -> bool
     requires { (n ≤ m) × (n ≤ column_bound) × (a ≤ n) × RoomFor m seeds.now × RoomFor m backed.now
-        × (first + entry_bytes * count ≤ length list.now)
-        × LeftsWithin n target (entries_from list.now count first)
-        × RoomFor m keys.now × LeftsClosed (entries_from list.now count first) target row m keys.now }
+        × LeftsWithin n target (entries_of list)
+        × RoomFor m keys.now × LeftsClosed (entries_of list) target row m keys.now }
     ensures { (v : View) → v.members ≡ n → Equivalence v → SeedsBelow v m seeds.now
         → BackedPlane v backed.now
-        → (result ≡ true) ↔ SoundIn v (entries_from list.now count first) target (right_at n a) }
+        → (result ≡ true) ↔ SoundIn v (entries_of list.entry) target (right_at n a) }
 {
     let right = right_at(n, a);
     let mut broken = [0; PLANE];
     planes::fill(seeds, m, a, &mut broken);
     let mut lefts = [0; PLANE];
-    close_lefts(list, count, first, target, right, m, &mut lefts);
-    entries_sound(
-        list, count, first, target, right, backed, &broken, keys, &lefts, m,
-    )
+    close_lefts(list, target, right, m, &mut lefts);
+    entries_sound(list, target, right, backed, &broken, keys, &lefts, m)
 }
 
 // Are those sound that are for the target and one of its rights?
 fn rights_sound(
-    list: &[u8],
-    count: u32,
-    first: usize,
+    list: PackedEntries,
     target: u32,
     n: u32,
     m: u32,
@@ -141,34 +109,30 @@ fn rights_sound(
     keys: &[u32],
 ) -> bool
     requires { (n ≤ m) × (n ≤ column_bound) × (low ≤ n) × RoomFor m seeds.now × RoomFor m backed.now
-        × (first + entry_bytes * count ≤ length list.now)
-        × LeftsWithin n target (entries_from list.now count first)
-        × RoomFor m keys.now × LeftsClosed (entries_from list.now count first) target row m keys.now }
+        × LeftsWithin n target (entries_of list)
+        × RoomFor m keys.now × LeftsClosed (entries_of list) target row m keys.now }
     ensures { (v : View) → v.members ≡ n → Equivalence v → SeedsBelow v m seeds.now
         → BackedPlane v backed.now
         → (result ≡ true) ↔ ((a : ℕ) → a < n + 1 → low ≤ a
-        → SoundIn v (entries_from list.now count first) target (right_at n a)) }
+        → SoundIn v (entries_of list.entry) target (right_at n a)) }
 {
-    let mut a = low;
-    while a <= n {
-        if !right_sound(list, count, first, target, n, m, a, seeds, backed, keys) {
+    for a in low..n + 1 {
+        if !right_sound(list, target, n, m, a, seeds, backed, keys) {
             return false;
         }
-        a += 1;
     }
     true
 }
 
 // Are the entries of a target sound?
-pub fn target_sound(cat: &[u8], target: u32, list: &[u8], count: u32, first: usize) -> bool
+pub fn target_sound(cat: &[u8], target: u32, list: PackedEntries) -> bool
     requires accepted { Accepted cat.now }
     requires target_bound { target < tables cat.now }
-    requires count_in_bounds { first + entry_bytes * count ≤ length list.now }
-    ensures { (result ≡ true) ↔ SoundFor cat.now target (entries_from list.now count first) }
+    ensures { (result ≡ true) ↔ SoundFor cat.now target (entries_of list.entry) }
 {
     let n = visible(cat, target);
     let low = inherited(cat, target);
-    if !entries_fit(list, count, first, target, n, low) {
+    if !entries_fit(list, target, n, low) {
         return false;
     }
     let m = wide(n);
@@ -177,8 +141,6 @@ pub fn target_sound(cat: &[u8], target: u32, list: &[u8], count: u32, first: usi
     let mut backed = [0; PLANE];
     backed_plane(cat, target, n, m, &mut backed);
     let mut keys = [0; PLANE];
-    close_lefts(list, count, first, target, ROW, m, &mut keys);
-    rights_sound(
-        list, count, first, target, n, m, low, &seeds, &backed, &keys,
-    )
+    close_lefts(list, target, ROW, m, &mut keys);
+    rights_sound(list, target, n, m, low, &seeds, &backed, &keys)
 }

@@ -1,7 +1,7 @@
 -- The answers of `coverage::target_covered`.
 use mathlib.Core.Path.{ap}
 use mathlib.Core.Bool.{not}
-use Prim.Native.Nat.{ℕ, ◌-◌, ◌≤◌, ◌<◌}
+use Prim.Native.Nat.{ℕ, ◌≤◌, ◌<◌}
 use mathlib.Core.List.{List}
 use mathlib.Core.Path.{sym}
 use native.Mathlib.Omega.{arith}
@@ -14,7 +14,7 @@ use Rattle.model.proofs.Check.{accepted_visible}
 use Rattle.model.proofs.Climb.{inherited_visible}
 use Rattle.evidence.proofs.Sides.{lefts_narrow}
 use Rattle.planes.proofs.Marks.{blank_room, room_kept}
-use Rattle.evidence.proofs.Answers.{said_yes, passed_none, passed_more, passed_no, passed_yes}
+use Rattle.evidence.proofs.Answers.{says_yes, says_no, said_yes, said_no, below_more}
 use Rattle.coverage.proofs.Laws.{lefts_within, sets_within, rights_covered_is}
 use Rattle.coverage.proofs.target_covered.Goals as goal
 
@@ -39,14 +39,11 @@ close_lefts-requires c =
     let n = c.visible-n.ensures in
     let m = c.wide-m.ensures in (
       blank_room _ m.word (m.few (omega (arith, f, n))),
-      c.requires.count_in_bounds.0,
-      lefts_narrow _ _ _ _ _ m.all (lefts_within c.args.cat.now c.args.target _ n _ c.requires.count_in_bounds.2),
+      lefts_narrow _ _ _ _ _ m.all (lefts_within c.args.cat.now c.args.target _ n _ c.requires.sound.0),
     )
 
 pub loop-a-init : goal.loop-a-init
-loop-a-init c =
-    let l = inherited_visible c.args.cat.now c.args.target in
-    passed_none (omega (arith, c.visible-n.ensures, c.inherited-a.ensures))
+loop-a-init c = λ k l i. absurd (omega arith)
 
 pub right_covered-requires : goal.right_covered-requires
 right_covered-requires c =
@@ -57,10 +54,8 @@ right_covered-requires c =
       m.all,
       omega arith,
       room_kept (search rules) room,
-      c.requires.count_in_bounds.0,
-      c.requires.count_in_bounds.1,
-      lefts_within c.args.cat.now c.args.target _ n _ c.requires.count_in_bounds.2,
-      sets_within c.args.cat.now c.args.target _ n _ c.requires.count_in_bounds.3,
+      lefts_within c.args.cat.now c.args.target _ n _ c.requires.sound.0,
+      sets_within c.args.cat.now c.args.target _ n _ c.requires.sound.1,
       room_kept (search rules) room,
       c.close_lefts.ensures,
     )
@@ -68,28 +63,26 @@ right_covered-requires c =
 pub returns-then-not-right_covered : goal.returns-then-not-right_covered
 returns-then-not-right_covered c =
     let all = rights_covered_is c.args.cat.now c.requires.accepted c.args.target _ _ c.requires.target_bound
-    c.visible-n.ensures c.inherited-a.ensures _ _ in
-    passed_no all (omega arith) c.loop-a.invariant
-    (c.right_covered.ensures (view c.args.cat.now c.args.target) (sym c.visible-n.ensures)
-    c.backed_plane.ensures) (ap not c.if-not-right_covered.true)
+    c.visible-n.ensures c.inherited-low.ensures _ _ in
+    let is = c.right_covered.ensures (view c.args.cat.now c.args.target) (sym c.visible-n.ensures)
+    c.backed_plane.ensures in
+    says_no (λ h. said_no is (ap not c.if-not-right_covered.true) (all.1 h _ (omega arith) (omega arith)))
 
-pub overflow_add-a : goal.overflow_add-a
-overflow_add-a c =
+pub overflow_add-a-end : goal.overflow_add-a-end
+overflow_add-a-end c =
     let f = few c.args.cat.now c.args.target c.requires.accepted c.requires.target_bound in
     omega (arith, f, c.visible-n.ensures)
 
-pub loop-a-smaller : goal.loop-a-smaller
-loop-a-smaller c = omega arith
-
 pub loop-a-preserved : goal.loop-a-preserved
 loop-a-preserved c =
-    passed_more (omega arith)
-    (said_yes (c.right_covered.ensures (view c.args.cat.now c.args.target)
+    below_more c.loop-a.invariant
+    (λ l.
+    said_yes (c.right_covered.ensures (view c.args.cat.now c.args.target)
     (sym c.visible-n.ensures) c.backed_plane.ensures) (ap not c.if-not-right_covered.false))
-    c.loop-a.invariant
 
 pub returns : goal.returns
 returns c =
     let all = rights_covered_is c.args.cat.now c.requires.accepted c.args.target _ _ c.requires.target_bound
-    c.visible-n.ensures c.inherited-a.ensures _ _ in
-    passed_yes all (omega arith) c.loop-a.invariant
+    c.visible-n.ensures c.inherited-low.ensures _ _ in
+    let f = inherited_visible c.args.cat.now c.args.target in
+    says_yes (all.0 (λ a l h. c.loop-a.invariant a (omega (arith, f, c.visible-n.ensures, c.inherited-low.ensures)) l))

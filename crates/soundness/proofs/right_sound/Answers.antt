@@ -14,7 +14,7 @@ fill-requires c =
 pub close_lefts-requires : goal.close_lefts-requires
 close_lefts-requires c =
     let room = c.requires.3 in
-    (blank_room c.args.m room.word room.few, c.requires.5, lefts_narrow _ _ _ _ _ c.requires.0 c.requires.6)
+    (blank_room c.args.m room.word room.few, lefts_narrow _ _ _ _ _ c.requires.0 c.requires.5)
 
 pub entries_sound-requires : goal.entries_sound-requires
 entries_sound-requires c =
@@ -22,15 +22,14 @@ entries_sound-requires c =
     let small = seed_words_small c.args.m room.few in (
       c.requires.4,
       record { word = room.word; few = room.few; fits = omega arith },
-      c.requires.7,
+      c.requires.6,
       record { word = room.word; few = room.few; fits = omega arith },
-      c.requires.5,
-      lefts_narrow _ _ _ _ _ c.requires.0 c.requires.6,
+      lefts_narrow _ _ _ _ _ c.requires.0 c.requires.5,
     )
 
 pub returns : goal.returns
 returns c v en eq sown there =
     let right = c.right_at-right in
     sound_in v _ _ c.args.n c.args.m c.args.a right.result _ c.args.backed.now _
-    c.args.keys.now _ c.requires.0 c.requires.1 c.requires.2 right.ensures c.requires.6 c.fill.ensures
-    c.requires.8 c.close_lefts.ensures c.entries_sound.ensures en eq sown there
+    c.args.keys.now _ c.requires.0 c.requires.1 c.requires.2 right.ensures c.requires.5 c.fill.ensures
+    c.requires.7 c.close_lefts.ensures c.entries_sound.ensures en eq sown there

@@ -1,26 +1,30 @@
 -- The answers of `soundness::rights_sound`.
+use Prim.Native.Nat.{ℕ, ◌≤◌}
 use mathlib.Core.Path.{ap}
 use mathlib.Core.Bool.{not}
-use Prim.Native.Nat.{◌-◌}
 use native.Mathlib.Omega.{arith}
-use Rattle.evidence.proofs.Answers.{says_yes, says_no, said_yes, said_no}
-use Rattle.evidence.proofs.Answers.{passed_none, passed_more, passed_all}
+use Rattle.evidence.proofs.Answers.{says_yes, says_no, said_yes, said_no, below_more}
+use Rattle.marks.specs.Run.{entries_of}
+use Rattle.soundness.proofs.Laws.{SoundAt}
 use Rattle.soundness.proofs.rights_sound.Goals as goal
 
 pub loop-a-init : goal.loop-a-init
-loop-a-init c = passed_none (omega arith)
+loop-a-init c = λ k l i. absurd (omega arith)
 
 pub returns-then-not-right_sound : goal.returns-then-not-right_sound
 returns-then-not-right_sound c v en eq sown there =
     says_no (λ h. said_no (c.right_sound.ensures v en eq sown there) (ap not c.if-not-right_sound.true)
-    (h _ (omega arith) c.loop-a.invariant.from))
+    (h _ (omega arith) (omega arith)))
 
 pub loop-a-preserved : goal.loop-a-preserved
 loop-a-preserved c =
-    passed_more (omega arith)
-    (λ v en eq sown there. said_yes (c.right_sound.ensures v en eq sown there) (ap not c.if-not-right_sound.false))
-    c.loop-a.invariant
+    let a = c.args in
+    let Sound : ℕ → Type 0 =
+    λ k. a.low ≤ k → SoundAt (entries_of a.list) a.target a.n a.m a.seeds.now a.backed.now k in
+    below_more {P = Sound} c.loop-a.invariant
+    (λ l v en eq sown there.
+    said_yes (c.right_sound.ensures v en eq sown there) (ap not c.if-not-right_sound.false))
 
 pub returns : goal.returns
 returns c v en eq sown there =
-    says_yes (λ a u l. passed_all (omega arith) c.loop-a.invariant a l (omega arith) v en eq sown there)
+    says_yes (λ a u l. c.loop-a.invariant a (omega arith) l v en eq sown there)

@@ -26,7 +26,7 @@ few cat target accepted bound = accepted_visible cat accepted target bound
 pub entries_fit-requires : goal.entries_fit-requires
 entries_fit-requires c =
     let f = few c.args.cat.now c.args.target c.requires.accepted c.requires.target_bound in
-    (omega (arith, f, c.visible-n.ensures), c.requires.count_in_bounds)
+    omega (arith, f, c.visible-n.ensures)
 
 pub returns-then-not-entries_fit : goal.returns-then-not-entries_fit
 returns-then-not-entries_fit c =
@@ -61,7 +61,6 @@ close_lefts-requires c =
     let n = c.visible-n.ensures in
     let m = c.wide-m.ensures in (
       blank_room _ m.word (m.few (omega (arith, f, n))),
-      c.requires.count_in_bounds,
       lefts_narrow _ _ _ _ _ m.all (fits_narrow (said_yes c.entries_fit.ensures (ap not c.if-not-entries_fit.false))),
     )
 
@@ -82,7 +81,6 @@ rights_sound-requires c =
       ),
       room_kept c.sow.ensures.0 room,
       room_kept (search rules) room,
-      c.requires.count_in_bounds,
       fits_narrow (said_yes c.entries_fit.ensures (ap not c.if-not-entries_fit.false)),
       room_kept (search rules) room,
       c.close_lefts.ensures,
