@@ -11,10 +11,9 @@
 ghost use Rattle.std.specs.Prelude.{◌≡◌, ℕ, suc, ◌+◌, ◌-◌, ◌^◌, ◌≤◌, ◌<◌, length, IfSome, MatchOption};
 ghost use Rattle.columns.specs.Bound.{column_bound};
 ghost use Rattle.model.specs.Bounds.{work_bound};
-ghost use Rattle.model.specs.Catalogue.{tables, visible as visible_of};
-ghost use Rattle.model.specs.Check.{Accepted};
 ghost use Rattle.model.specs.Listing.{ordinary};
-ghost use Rattle.model.specs.Target.{view, own_rights};
+ghost use Rattle.model.specs.Target.{own_rights};
+ghost use Rattle.layout.specs.Targets.{view_of, members_in};
 ghost use Rattle.table.specs.Words.{word};
 ghost use Rattle.table.specs.Broken.{Scanned};
 ghost use Rattle.leaders.specs.Keys.{Keyed};
@@ -25,7 +24,7 @@ ghost use Rattle.rights.specs.Rights.{listed_rights};
 
 use bits::power;
 use keys::lay_all;
-use layout::{inherited, rows, visible};
+use layout::Target;
 use leaders::{ROWS, SIZE};
 use passing::Held;
 use planes::{PLANE, bit_at};
@@ -52,36 +51,30 @@ fn undropped(n: u32, minimal: u32) -> u32
 
 // Of the minimal rights of a left side of a target, by itself, those that are listed: none if it is not backed, the row
 // alone if it is a key, else all.
-fn filter_alone(cat: &[u8], target: u32, n: u32, left: u32, minimal: u32) -> u32
-    requires accepted { Accepted cat.now }
-    requires target_bound { target < tables cat.now }
-    requires n_value { (n ≡ visible_of cat.now target) × (left < 2 ^ n) }
-    ensures { result ≡ kept (view cat.now target) left minimal }
+fn filter_alone(target: Target, left: u32, minimal: u32) -> u32
+    requires { left < 2 ^ members_in target }
+    ensures { result ≡ kept (view_of target.entry) left minimal }
 {
     if minimal == 0 {
         return 0;
     }
     let mut sets = [0u32; ROWS];
-    presence::lay(cat, target, n, &mut sets);
-    let end = rows(cat, target) as usize;
-    if presence::is_backed(&sets, end, left) {
-        return undropped(n, minimal);
+    presence::lay(target, &mut sets);
+    if presence::is_backed(&sets, target.rows(), left) {
+        return undropped(target.members(), minimal);
     }
     0
 }
 
 // Notes in the words of a table which left sides are backed, and closes them.
-fn back_table(cat: &[u8], target: u32, n: u32, work: &mut [u32])
-    requires accepted { Accepted cat.now }
-    requires target_bound { target < tables cat.now }
-    requires n_value { (n ≡ visible_of cat.now target) × (2 ^ n ≤ length work.old)
-        × ((s : ℕ) → s < 2 ^ n → word work.old s < 2 ^ suc n) × Scanned (view cat.now target) work.old }
-    ensures { Tabled (view cat.now target) work.new }
+fn back_table(target: Target, n: u32, work: &mut [u32])
+    requires { (n ≡ members_in target) × (2 ^ n ≤ length work.old)
+        × ((s : ℕ) → s < 2 ^ n → word work.old s < 2 ^ suc n) × Scanned (view_of target) work.old }
+    ensures { Tabled (view_of target.entry) work.new }
 {
     let mut sets = [0u32; ROWS];
-    presence::lay(cat, target, n, &mut sets);
-    let end = rows(cat, target) as usize;
-    presence::note(&sets, end, n + 1, work);
+    presence::lay(target, &mut sets);
+    presence::note(&sets, target.rows(), n + 1, work);
     table::close(work, n);
 }
 
@@ -95,96 +88,84 @@ fn put_behind(plane: &[u32], m: usize, work: &mut [u32])
 }
 
 // Puts the plane of backed left sides behind the seeds.
-fn back_seeds(cat: &[u8], target: u32, n: u32, work: &mut [u32])
-    requires accepted { Accepted cat.now }
-    requires target_bound { target < tables cat.now }
-    requires n_value { (n ≡ visible_of cat.now target) × (5 ≤ n) × (2 ^ (n - 4) ≤ length work.old) }
-    ensures { BackedPut (view cat.now target) n work.old work.new }
+fn back_seeds(target: Target, n: u32, work: &mut [u32])
+    requires { (n ≡ members_in target) × (5 ≤ n) × (2 ^ (n - 4) ≤ length work.old) }
+    ensures { BackedPut (view_of target.entry) n work.old work.new }
 {
     let mut plane = [0; PLANE];
-    presence::backed_plane(cat, target, n, n, &mut plane);
+    presence::backed_plane(target, n, &mut plane);
     let m = power(n - 5) as usize;
     put_behind(&plane, m, work);
 }
 
 // Fills the work words for a target whose keys are laid, and answers what they hold.
-fn fill(cat: &[u8], target: u32, all: &[u16; SIZE], n: u32, end: usize, work: &mut [u32]) -> Held
-    requires accepted { Accepted cat.now }
-    requires target_bound { target < tables cat.now }
-    requires n_value { (n ≡ visible_of cat.now target) × (work_bound ≤ length work.old)
-        × Keyed (view cat.now target) (2 ^ n - 1) n end all.now }
-    ensures { (own : ℕ) → Holding result (view cat.now target) own work.new }
+fn fill(target: Target, all: &[u16; SIZE], n: u32, end: usize, work: &mut [u32]) -> Held
+    requires { (n ≡ members_in target) × (work_bound ≤ length work.old)
+        × Keyed (view_of target) (2 ^ n - 1) n end all.now }
+    ensures { (own : ℕ) → Holding result (view_of target.entry) own work.new }
 {
     if work.len() < power(n) as usize {
         scan::sow(all, n, end, work);
-        back_seeds(cat, target, n, work);
+        back_seeds(target, n, work);
         return Held::Seeds;
     }
     scan::write(all, n, end, work);
-    back_table(cat, target, n, work);
+    back_table(target, n, work);
     Held::Table
 }
 
 // The rights of the target: its own columns, and the row.
-fn own_rights(cat: &[u8], target: u32) -> u32
-    requires accepted { Accepted cat.now }
-    requires target_bound { target < tables cat.now }
-    ensures { result ≡ own_rights cat.now target }
+fn own_rights(target: Target) -> u32
+    ensures { result ≡ own_rights target.entry.cat.now target.entry.table }
 {
-    let end = visible(cat, target) + 1;
-    power(end) - power(inherited(cat, target))
+    let end = target.members() + 1;
+    power(end) - power(target.inherited())
 }
 
 // A target is entered: for one left side alone with its listed rights, without work words; and for none with the words
 // made ready, and all its rights as the mask. The keys are laid in one place for both, so they stand in one frame.
-fn enter(cat: &[u8], target: u32, alone: Option<u32>, work: &mut [u32]) -> Entered
-    requires accepted { Accepted cat.now }
-    requires target_bound { target < tables cat.now }
-    requires left_bound { IfSome alone (λ left. left < 2 ^ visible_of cat.now target) }
+fn enter(target: Target, alone: Option<u32>, work: &mut [u32]) -> Entered
+    requires left_bound { IfSome alone (λ left. left < 2 ^ members_in target) }
     requires work_bound_in_bounds { work_bound ≤ length work.old }
-    ensures { MatchOption alone (Ready (ordinary cat.now) target result.held result.mask work.new)
-        (λ left. result.mask ≡ listed_rights (ordinary cat.now) target left) }
+    ensures { MatchOption alone
+        (Ready (ordinary target.entry.cat.now) target.entry.table result.held result.mask work.new)
+        (λ left. result.mask ≡ listed_rights (ordinary target.entry.cat.now) target.entry.table left) }
 {
-    let n = visible(cat, target);
+    let n = target.members();
+    let end = target.rows();
     let mut all = [0u16; SIZE];
-    lay_all(cat, target, n, &mut all);
-    let end = rows(cat, target) as usize;
-    let own = own_rights(cat, target);
+    lay_all(target, &mut all);
+    let own = own_rights(target);
     match alone {
         Some(left) => {
             let minimal = partition::minimal_alone(&all, n, end, own, left);
-            let mask = filter_alone(cat, target, n, left, minimal);
+            let mask = filter_alone(target, left, minimal);
             Entered {
                 held: Held::Table,
                 mask,
             }
         }
         None => {
-            let held = fill(cat, target, &all, n, end, work);
+            let held = fill(target, &all, n, end, work);
             Entered { held, mask: own }
         }
     }
 }
 
 // Makes the work words ready for a target, and answers what they hold and the target's rights.
-pub fn prepare(cat: &[u8], target: u32, work: &mut [u32]) -> Entered
-    requires accepted { Accepted cat.now }
-    requires target_bound { target < tables cat.now }
-    requires work_bound_in_bounds { work_bound ≤ length work.old }
-    ensures { Ready (ordinary cat.now) target result.held result.mask work.new }
+pub fn prepare(target: Target, work: &mut [u32]) -> Entered
+    requires { work_bound ≤ length work.old }
+    ensures { Ready (ordinary target.entry.cat.now) target.entry.table result.held result.mask work.new }
 {
-    enter(cat, target, None, work)
+    enter(target, None, work)
 }
 
 // The listed rights of a left side of the target, by itself.
-pub fn alone(cat: &[u8], target: u32, left: u32, work: &mut [u32]) -> u32
-    requires accepted { Accepted cat.now }
-    requires target_bound { target < tables cat.now }
-    requires left_bound { (left < 2 ^ visible_of cat.now target) × (work_bound ≤ length work.old) }
-    ensures { result ≡ listed_rights (ordinary cat.now) target left }
+pub fn alone(target: Target, left: u32, work: &mut [u32]) -> u32
+    requires { (left < 2 ^ members_in target) × (work_bound ≤ length work.old) }
+    ensures { result ≡ listed_rights (ordinary target.entry.cat.now) target.entry.table left }
 {
-    let entered = enter(cat, target, Some(left), work);
-    entered.mask
+    enter(target, Some(left), work).mask
 }
 
 // The minimal rights of a left side of any view of n members, by what the work words hold.
@@ -224,22 +205,12 @@ fn filter(n: u32, left: u32, held: Held, minimal: u32, work: &[u32]) -> u32
     0
 }
 
-// The listed rights of a left side of a target with n visible columns, by what the work words hold.
-pub fn rights(
-    cat: &[u8],
-    target: u32,
-    n: u32,
-    left: u32,
-    held: Held,
-    own: u32,
-    work: &mut [u32],
-) -> u32
-    requires accepted { Accepted cat.now }
-    requires target_bound { target < tables cat.now }
-    requires n_value { (n ≡ visible_of cat.now target) × (left < 2 ^ n) }
-    requires ready { Ready (ordinary cat.now) target held own work.old }
-    ensures value { result ≡ listed_rights (ordinary cat.now) target left }
-    ensures ready_2 { Ready (ordinary cat.now) target held own work.new }
+// The listed rights of a left side of a target with n members, by what the work words hold.
+pub fn rights(target: Target, n: u32, left: u32, held: Held, own: u32, work: &mut [u32]) -> u32
+    requires n_value { (n ≡ members_in target) × (left < 2 ^ n) }
+    requires ready { Ready (ordinary target.cat.now) target.table held own work.old }
+    ensures value { result ≡ listed_rights (ordinary target.entry.cat.now) target.entry.table left }
+    ensures ready_2 { Ready (ordinary target.entry.cat.now) target.entry.table held own work.new }
 {
     let found = minimal(n, left, held, own, work);
     filter(n, left, held, found, work)

@@ -6,7 +6,6 @@ use native.Mathlib.Numerals.{add-one}
 use native.Mathlib.Omega.{arith}
 use lib.Pow.{pow_mono}
 use Rattle.model.specs.Catalogue.{visible, inherited}
-use Rattle.model.proofs.Check.{accepted_visible}
 use Rattle.model.proofs.Climb.{inherited_own}
 use Rattle.rights.proofs.own_rights.Goals as goal
 
@@ -18,33 +17,17 @@ is_own : (b : List ℕ) (t e p q i : ℕ) → e ≡ visible b t + 1 → p ≡ 2 
 is_own b t e p q i u v w z =
     ap₂ (λ (x y : ℕ). x - y) (v ∙ ap (λ (j : ℕ). 2 ^ j) (u ∙ add-one (visible b t))) (z ∙ ap (λ (j : ℕ). 2 ^ j) w)
 
-pub overflow_add-end : goal.overflow_add-end
-overflow_add-end c =
-    let s = c in
-    omega (arith, accepted_visible s.args.cat.now s.requires.accepted s.args.target s.requires.target_bound)
-
-pub power-requires : goal.power-requires
-power-requires c =
-    let s = c in
-    omega (arith, accepted_visible s.args.cat.now s.requires.accepted s.args.target s.requires.target_bound)
-
 pub power-requires-2 : goal.power-requires-2
-power-requires-2 c =
-    let s = c in
-    omega (
-      arith,
-      accepted_visible s.args.cat.now s.requires.accepted s.args.target s.requires.target_bound,
-      inherited_own s.args.cat.now s.args.target,
-    )
+power-requires-2 c = omega (arith, c.inherited.ensures.few, c.members-end.ensures.is, c.members-end.ensures.few)
 
 pub overflow_sub-result : goal.overflow_sub-result
 overflow_sub-result c =
-    own_le _ _ _ _ _ _ (ap (λ (n : ℕ). n + 1) c.visible-end.ensures)
+    own_le _ _ _ _ _ _ (ap (λ (n : ℕ). n + 1) c.members-end.ensures.is)
     c.power.ensures
-    c.inherited.ensures c.power-2.ensures
+    c.inherited.ensures.is c.power-2.ensures
 
 pub returns : goal.returns
 returns c =
-    is_own _ _ _ _ _ _ (ap (λ (n : ℕ). n + 1) c.visible-end.ensures)
+    is_own _ _ _ _ _ _ (ap (λ (n : ℕ). n + 1) c.members-end.ensures.is)
     c.power.ensures
-    c.inherited.ensures c.power-2.ensures
+    c.inherited.ensures.is c.power-2.ensures
