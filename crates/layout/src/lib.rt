@@ -85,7 +85,7 @@ pub fn table_end(cat: &[u8], table: u32) -> usize
 }
 
 // How many columns are visible in a table.
-#[tactic(auto, using(model::proofs::Climb::climb_ends, model::proofs::Climb::climb_goes_on, model::proofs::Climb::climb_over), unfolding(model::specs::Catalogue::visible))]
+#[tactic(auto, using(crate::proofs::Where::climbs), unfolding(model::specs::Catalogue::visible))]
 pub fn visible(cat: &[u8], table: u32) -> u32
     ensures { result ≡ visible_of cat.now table }
 {
@@ -110,7 +110,7 @@ pub fn inherited(cat: &[u8], table: u32) -> u32
 }
 
 // The sets over all targets of an accepted catalogue.
-#[tactic(auto, using(model::proofs::Check::accepted_tables, model::proofs::Check::accepted_visible, crate::proofs::Where::sets_go_on, crate::proofs::Where::sets_over, crate::proofs::Where::accepted_sets), unfolding(model::specs::Catalogue::sets))]
+#[tactic(auto, using(crate::proofs::Where::summed), unfolding(model::specs::Catalogue::sets))]
 pub fn sets(cat: &[u8]) -> u32
     requires { Accepted cat.now }
     ensures { result ≡ sets_of cat.now }
