@@ -16,6 +16,7 @@ pub fn byte_at(b: &[u8], i: usize) -> u8
 }
 
 // The 2-byte number at i.
+#[tactic(auto, using(crate::proofs::Past::u16_past), unfolding(model::specs::Bytes::u16_at))]
 pub fn u16_at(b: &[u8], i: usize) -> u16
     ensures { result ≡ u16_at b.now i }
 {
@@ -26,6 +27,7 @@ pub fn u16_at(b: &[u8], i: usize) -> u16
 }
 
 // The 4-byte number at i.
+#[tactic(auto, using(crate::proofs::Past::u32_past), unfolding(model::specs::Bytes::u32_at))]
 pub fn u32_at(b: &[u8], i: usize) -> u32
     ensures { result ≡ u32_at b.now i }
 {

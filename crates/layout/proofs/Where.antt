@@ -1,4 +1,4 @@
--- That a row's place fits, and the sets of the tables from one on.
+-- That a row's place fits, the sets of the tables from one on, and the lemmas that a climb and a sum of sets need.
 use Prim.Native.Nat.{ℕ, zero, suc, ◌+◌, ◌-◌, ◌*◌, ◌^◌, ◌≤◌, ◌<◌}
 use mathlib.Core.Path.{◌≡◌, ap, ◌∙◌}
 use mathlib.Core.List.{List}
@@ -8,7 +8,8 @@ use lib.Pow.{pow_mono}
 use Rattle.columns.specs.Bound.{column_bound}
 use Rattle.model.specs.Catalogue.{tables, visible, sets_from}
 use Rattle.model.specs.Check.{Accepted}
-use Rattle.model.proofs.Check.{accepted_visible}
+use Rattle.model.proofs.Check.{accepted_tables, accepted_visible}
+use Rattle.model.proofs.Climb.{climb_ends, climb_goes_on, climb_over}
 
 -- a row's distance from the first fits
 pub product_small : (k c : ℕ) → k < 2 ^ 32 → c < 2 ^ 16 → k * (2 + 4 * c) ≤ 2 ^ 32 * (2 + 4 * 2 ^ 16)
@@ -40,3 +41,8 @@ sets_over cat n i h =
 -- a target has as many sets as the bound on columns allows, at most
 pub accepted_sets : (cat : List ℕ) → Accepted cat → (i : ℕ) → i < tables cat → 2 ^ visible cat i ≤ 2 ^ column_bound
 accepted_sets cat e i h = pow_mono (accepted_visible cat e i h)
+
+-- what a count of visible columns and a sum of sets need
+pub ruleset climbs = (climb_ends, climb_goes_on, climb_over)
+
+pub ruleset summed = (accepted_tables, accepted_visible, accepted_sets, sets_go_on, sets_over)
