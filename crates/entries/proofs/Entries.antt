@@ -84,6 +84,3 @@ unfolding entries_held
 reads_next file i h q r =
     ap Some (r ∙ ap (λ (n : ℕ). entry_at file (n + entry_bytes * i)) q)
     ∙ sym (read_from file (count_in file) (length file - distance_in file) i h)
-
-pub reads_end : (file : List ℕ) (i : ℕ) → count_in file ≤ i → None ≡ read_at (entries_held file) i
-reads_end file i h = sym (read_past (entries_held file) i (omega (arith, length_in file)))

@@ -5,8 +5,6 @@ use mathlib.Core.Logic.{◌⊎◌, inl, inr}
 use mathlib.Core.Bool.{Bool, true, false}
 use native.Mathlib.Omega.{arith}
 use native.Mathlib.Decide.{dec_le, dec_lt, ℕ_discrete}
-use lib.Dec.{ltb}
-use borrow.Author.Tests.{lt-ltb, le-ltb}
 use Rattle.columns.specs.Test.{if_eq, if_lt, if_le, pick}
 use Rattle.columns.proofs.Test.{if_eq_yes, if_eq_no, if_lt_yes, if_lt_no, if_le_yes, if_le_no}
 
@@ -45,11 +43,3 @@ eq_or a b y h = go (ℕ_discrete a b)
 pub picked : (t : Bool) (y : ℕ) → (y ≡ 0 → ⊥) → pick t 0 y ≡ 0 → t ≡ true
 picked true y n h = refl
 picked false y n h = absurd (n h)
-
--- two tests that hold together are one
-pub same_lt : (a b c d : ℕ) → (a < b → c < d) → (b ≤ a → d ≤ c) → ltb a b ≡ ltb c d
-same_lt a b c d f g = go (dec_lt a b)
-  where
-    go : Dec (a < b) → ltb a b ≡ ltb c d
-    go (yes h) = lt-ltb a b h ∙ sym (lt-ltb c d (f h))
-    go (no n) = let h : b ≤ a = omega arith in le-ltb a b h ∙ sym (le-ltb c d (g h))

@@ -48,6 +48,7 @@ pub fn fine_after(before: Option<Entry>, e: Entry) -> bool
 }
 
 // The entry whose bytes begin at a position; a byte past the end reads as 0.
+#[tactic(auto, using(crate::proofs::OneEntry::entry_past), unfolding(model::specs::Entries::entry_at))]
 pub fn entry_from(file: &[u8], at: usize) -> Entry
     ensures { result ≡ entry_at file.now at }
 {

@@ -41,6 +41,7 @@ pub fn open(file: &[u8]) -> Result<Opened, Refusal>
 }
 
 // The part in front of the list of a file; no byte where `open` refuses the file.
+#[tactic(auto, using(crate::proofs::Reading::front_by_lem))]
 pub fn front(file: &[u8]) -> &[u8]
     ensures { result.now ≡ front_read file.now }
 {

@@ -2,23 +2,17 @@
 use Prim.Native.Nat.{ℕ, ◌+◌, ◌*◌, ◌≤◌, ◌<◌}
 use mathlib.Core.Path.{◌≡◌, refl, sym, ap, ◌∙◌}
 use mathlib.Core.List.{List, [], ◌∷◌, ◌++◌, append_assoc, append-nil}
-use native.Mathlib.Numerals.{add-one, towards_suc}
+use native.Mathlib.Numerals.{add-one}
 use native.Mathlib.Omega.{arith}
-use lib.ListN.{length, length-append, length-drop, get_or, set, take, drop}
+use lib.ListN.{length, length-append, length-drop, get_or, take, drop}
 use lib.Seq.{sets, sets-eq, take-append_seam, drop-append-add, drop-drop, take-suc, length-take-le, drop-cons, take_all}
-use Rattle.model.specs.Bytes.{bytes2, bytes4}
+use Rattle.model.specs.Bytes.{bytes4}
 use Rattle.model.specs.Entry.{entry}
 use Rattle.model.specs.Entries.{entry_bytes, bytes_of, entries_bytes}
 use Rattle.model.specs.Packing.{trailer_bytes, distance_of, packed}
 use Rattle.model.specs.declared.Entry.{Entry}
 use Rattle.entries.proofs.OneEntry.{length_entry}
 use Rattle.entries.proofs.Entries.{length_entries}
-
--- an entry: two bytes and a number
-pub stores_entry : (l : List ℕ) (i : ℕ) (e : Entry)
-    → sets (set (set l i e.target) (i + 1) e.right) (i + 2) (bytes2 e.left) ≡ sets l i (bytes_of e)
-unfolding bytes_of
-stores_entry l i e = simp towards_suc
 
 -- a run of k stores behind a front of n bytes
 sets_behind : (p t vs : List ℕ) (n k : ℕ) → length p ≡ n → length vs ≡ k → k ≤ length t

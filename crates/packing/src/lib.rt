@@ -48,6 +48,7 @@ fn put_entry(out: &mut [u8], at: usize, e: Entry)
 }
 
 // Writes the entries one after the other, then the trailer, and answers how many bytes that is.
+#[tactic(auto, unfolding(model::specs::Entries::entries_bytes))]
 pub fn write_list(entries: &[Entry], out: &mut [u8]) -> usize
     requires { distance_of (length entries.now) ≤ length out.old }
     ensures bytes { result ≡ distance_of (length entries.now) }

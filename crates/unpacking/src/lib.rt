@@ -86,6 +86,7 @@ pub fn front_by(file: &[u8], answer: Result<Opened, Refusal>) -> &[u8]
 
 // Of k entries that begin at a position: reads into the run those from an index on, as many as it has records, and
 // answers how many.
+#[tactic(auto, unfolding(model::specs::Entries::entries_from))]
 pub fn read_part(file: &[u8], k: usize, first: usize, from: usize, run: &mut [Entry]) -> usize
     requires { first + entry_bytes * k < 2 ^ 64 }
     ensures count { result ≡ length (part_from file.now k first from (length run.old)) }

@@ -6,14 +6,10 @@ use native.Mathlib.Omega.{arith}
 use lib.ListN.{length}
 use lib.Seq.{sets}
 use Rattle.model.specs.Bytes.{bytes4}
-use Rattle.model.specs.Entries.{entry_bytes, entries_bytes}
+use Rattle.model.specs.Entries.{entry_bytes}
 use Rattle.model.specs.Packing.{distance_of}
 use Rattle.packing.proofs.Writes.{writes_entry, writes_trailer, all_written}
 use Rattle.packing.proofs.write_list.Goals as goal
-
-pub loop-i-init : goal.loop-i-init
-unfolding entries_bytes
-loop-i-init c = refl
 
 pub loop-i-preserved : goal.loop-i-preserved
 loop-i-preserved c =

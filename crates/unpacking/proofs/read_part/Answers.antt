@@ -1,16 +1,12 @@
 -- `unpacking::read_part` meets its contract: each turn stores the next entry, up to the part's last.
-use mathlib.Core.Path.{refl, sym, ap, ◌∙◌}
+use mathlib.Core.Path.{sym, ap, ◌∙◌}
 use native.Mathlib.Omega.{arith}
 use lib.ListN.{length}
 use Prim.Native.Nat.{◌+◌, ◌*◌}
-use Rattle.model.specs.Entries.{entry_bytes, entries_from}
+use Rattle.model.specs.Entries.{entry_bytes}
 use Rattle.entries.proofs.Entries.{length_from}
 use Rattle.unpacking.proofs.Parts.{part_is, stores_next, stored}
 use Rattle.unpacking.proofs.read_part.Goals as goal
-
-pub loop-n-init : goal.loop-n-init
-unfolding entries_from
-loop-n-init c = refl
 
 pub loop-n-preserved : goal.loop-n-preserved
 loop-n-preserved c =
