@@ -1,5 +1,5 @@
 -- From target to target: what holds of the records, entries and sets of each target holds of all; and the replies.
-use Prim.Native.Nat.{ℕ, ◌-◌, ◌*◌, ◌/◌, ◌%◌, ◌≤◌, ◌<◌}
+use Prim.Native.Nat.{ℕ, zero, suc, ◌+◌, ◌-◌, ◌*◌, ◌/◌, ◌%◌, ◌≤◌, ◌<◌}
 use mathlib.Core.Path.{◌≡◌, refl, sym, ap, ap₂, subst, ◌∙◌}
 use mathlib.Core.Logic.{◌↔◌}
 use mathlib.Core.Bool.{Bool}
@@ -11,7 +11,8 @@ use Rattle.columns.specs.Test.{pick}
 use Rattle.model.specs.Catalogue.{tables}
 use Rattle.model.specs.Check.{check_code}
 use Rattle.model.specs.Refusal.{number, last_refusal}
-use Rattle.model.specs.Reply.{refused, answered, reply_of}
+use Rattle.model.specs.Reply.{Reply, refused, answered, reply_of, verify_reply}
+use Rattle.std.specs.Prelude.{Result, Ok, Err, IsErrAnd}
 use Rattle.model.specs.Entries.{entries_from}
 use Rattle.model.specs.Evidence.{evidence_bytes, record_count, records_from, records_held, unbroken, TrueRecord}
 use Rattle.model.specs.Reading.{count_in, distance_in, entries_held, read_code, open_meaning}
@@ -20,6 +21,8 @@ use Rattle.model.specs.Verify.{are_covered_sets, records_code, sound_code, cover
 use Rattle.model.specs.Verify.{verify_meaning}
 use Rattle.model.specs.declared.Entry.{Entry}
 use Rattle.model.specs.declared.Evidence.{Evidence}
+use Rattle.model.specs.declared.Refusal.{Refusal}
+use Rattle.model.specs.declared.Verified.{Verified}
 use Rattle.model.specs.declared.Refusal.TheVariants.{FileTooShort, FalseRecord, UnsoundEntry, UncoveredSet}
 use Rattle.model.proofs.Truth.{is_true, is_false, eqb_is}
 use Rattle.model.proofs.Grounds.{or_else_first, or_else_next, reply_refused, reply_answered}
@@ -34,15 +37,17 @@ use Rattle.soundness.specs.Sound.{SoundFor}
 use Rattle.coverage.specs.Covered.{TargetCovered}
 use Rattle.verify.specs.Judged.{judged_meaning}
 
--- the records that are held are the whole ones
-pub held_from : (bytes : List ℕ) {count : ℕ} → count ≡ record_count bytes
-    → records_from bytes count 0 ≡ records_held bytes
-unfolding records_held
-held_from bytes e = ap (λ (n : ℕ). records_from bytes n 0) e
+-- how many records are read
+length_records_from : (bytes : List ℕ) (n i : ℕ) → length (records_from bytes n i) ≡ n
+unfolding records_from
+length_records_from bytes zero i = refl
+length_records_from bytes (suc n) i = omega (arith, length_records_from bytes n (i + evidence_bytes))
 
-pub held_inside : (bytes : List ℕ) {count : ℕ} → count ≡ record_count bytes → evidence_bytes * count ≤ length bytes
-unfolding record_count
-held_inside bytes e = omega arith
+-- as many as are whole, where they are those that are held
+pub count_is : (bytes : List ℕ) (count : ℕ) → records_from bytes count 0 ≡ records_held bytes → count ≡ record_count bytes
+unfolding records_held
+count_is bytes count e =
+    sym (length_records_from bytes count 0) ∙ ap length e ∙ length_records_from bytes (record_count bytes) 0
 
 pub whole_is : (bytes : List ℕ) → T (unbroken bytes) ↔ (length bytes % evidence_bytes ≡ 0)
 unfolding unbroken
@@ -51,26 +56,23 @@ whole_is bytes = eqb_is (length bytes % evidence_bytes) 0
 pub no_broken : {cat : List ℕ} (bytes : List ℕ) → TrueRecords cat bytes → length bytes % evidence_bytes ≡ 0
 no_broken bytes h = (whole_is bytes).0 h.whole
 
-pub each_true : (cat bytes : List ℕ) {count : ℕ} → count ≡ record_count bytes → TrueRecords cat bytes
-    → Each (TrueRecord cat) (records_from bytes count 0)
-each_true cat bytes e h = subst (Each (TrueRecord cat)) (sym (held_from bytes e)) h.each
-
 -- 17: all records are true exactly if none is broken, each is for a table, and those of each table are true
-module _ (cat bytes : List ℕ) {count end : ℕ} (e : count ≡ record_count bytes) (t : end ≡ tables cat) where
-  pub for_tables : TrueRecords cat bytes → Each (λ r. r.target < end) (records_from bytes count 0)
-  for_tables h r m =
-      omega (arith, t, ((sides_own cat r.target r.set r.right).0 (each_true cat bytes e h r m).allowed).0)
+module _ (cat bytes : List ℕ) {rs : List Evidence} (e : rs ≡ records_held bytes) where
+  pub each_true : TrueRecords cat bytes → Each (TrueRecord cat) rs
+  each_true h = subst (Each (TrueRecord cat)) (sym e) h.each
 
-  pub of_target : TrueRecords cat bytes → (target : ℕ) → AllTrue cat target (records_from bytes count 0)
-  of_target h target r m is = each_true cat bytes e h r m
+  pub for_tables : {end : ℕ} → end ≡ tables cat → TrueRecords cat bytes → Each (λ r. r.target < end) rs
+  for_tables t h r m = omega (arith, t, ((sides_own cat r.target r.set r.right).0 (each_true h r m).allowed).0)
 
-  pub all_targets_true : length bytes % evidence_bytes ≡ 0 → Each (λ r. r.target < end) (records_from bytes count 0)
-      → ((target : ℕ) → target < end → AllTrue cat target (records_from bytes count 0)) → TrueRecords cat bytes
-  all_targets_true whole known each =
-      record {
-        whole = (whole_is bytes).1 whole;
-        each = subst (Each (TrueRecord cat)) (held_from bytes e) (λ r m. each r.target (known r m) r m refl);
-      }
+  pub all_targets_true : {end : ℕ} → length bytes % evidence_bytes ≡ 0 → Each (λ r. r.target < end) rs
+      → ((target : ℕ) → target < end → AllTrue cat target rs) ↔ TrueRecords cat bytes
+  all_targets_true whole known = (
+    λ each. record {
+      whole = (whole_is bytes).1 whole;
+      each = subst (Each (TrueRecord cat)) e (λ r m. each r.target (known r m) r m refl);
+    },
+    λ h target l r m is. each_true h r m,
+  )
 
 -- 18: the same of entries
 module _ (cat : List ℕ) (es : List Entry) {end : ℕ} (t : end ≡ tables cat) where
@@ -78,15 +80,18 @@ module _ (cat : List ℕ) (es : List Entry) {end : ℕ} (t : end ≡ tables cat)
   entries_known h e m =
       omega (arith, t, ((sides_own cat e.target e.left e.right).0 (h e m).allowed).0)
 
-  pub all_targets_sound : Each (λ e. e.target < end) es → ((target : ℕ) → target < end → SoundFor cat target es)
-      → SoundEntries cat es
-  all_targets_sound known each e m = each e.target (known e m) e m refl
+  pub all_targets_sound : Each (λ e. e.target < end) es
+      → ((target : ℕ) → target < end → SoundFor cat target es) ↔ SoundEntries cat es
+  all_targets_sound known = (λ each e m. each e.target (known e m) e m refl, λ h target l e m is. h e m)
 
   -- 19: and of sets
-  pub all_targets_covered : (rs : List Evidence) → ((target : ℕ) → target < end → TargetCovered cat es rs target)
-      → CoveredSets cat es rs
-  all_targets_covered rs each target x right c =
-      each target (omega (arith, t, ((sides_own cat target x right).0 c.allowed).0)) x right c
+  pub all_targets_covered : (rs : List Evidence)
+      → ((target : ℕ) → target < end → TargetCovered cat es rs target) ↔ CoveredSets cat es rs
+  all_targets_covered rs = (
+    λ each target x right c.
+        each target (omega (arith, t, ((sides_own cat target x right).0 c.allowed).0)) x right c,
+    λ h target l. h target,
+  )
 
 -- a ground by a test, and the reply where it is the first
 failed : {A : Type 0} (t : Bool) (n : ℕ) → T t ↔ A → (A → ⊥) → pick t 0 n ≡ n
@@ -139,24 +144,12 @@ module _ (cat : List ℕ) (es : List Entry) (bytes : List ℕ) where
       ∙ passes (are_covered_sets cat es (records_held bytes)) (number UncoveredSet)
       (covered_sets_is es (records_held bytes) cat) covered)
 
--- how many records there are
-pub count_is : (bytes : List ℕ) → length bytes / evidence_bytes ≡ record_count bytes
-unfolding record_count
-count_is bytes = refl
-
-pub covered_held : (cat : List ℕ) (es : List Entry) (bytes : List ℕ)
-    → CoveredSets cat es (records_from bytes (length bytes / evidence_bytes) 0)
-    ↔ CoveredSets cat es (records_held bytes)
-covered_held cat es bytes =
-    let same = held_from bytes (count_is bytes) in
-    (subst (CoveredSets cat es) same, subst (CoveredSets cat es) (sym same))
-
-pub accepted_from : (cat file bytes : List ℕ) (count first : ℕ) → TrueRecords cat bytes
-    → SoundEntries cat (entries_from file count first)
+pub accepted_from : (cat file bytes : List ℕ) (count first records : ℕ) → records ≡ record_count bytes
+    → TrueRecords cat bytes → SoundEntries cat (entries_from file count first)
     → CoveredSets cat (entries_from file count first) (records_held bytes)
-    → answered (count ∷ (length bytes / evidence_bytes) ∷ []) ≡ judged_meaning cat (entries_from file count first) bytes
-accepted_from cat file bytes count first fine sound covered =
-    ap₂ (λ (k n : ℕ). answered (k ∷ n ∷ [])) (sym (length_from file count first)) (count_is bytes)
+    → answered (count ∷ records ∷ []) ≡ judged_meaning cat (entries_from file count first) bytes
+accepted_from cat file bytes count first records e fine sound covered =
+    ap₂ (λ (k n : ℕ). answered (k ∷ n ∷ [])) (sym (length_from file count first)) e
     ∙ accepted cat (entries_from file count first) bytes fine sound covered
 
 -- the entries that are held stand where the trailer says
@@ -167,10 +160,6 @@ entries_held_lem file = refl
 
 -- the call: the catalogue's refusal, the list's, or what is judged
 module _ (cat file bytes : List ℕ) where
-  pub catalogue_number : {code : ℕ} → code ≡ check_code cat → (code ≡ 0 → ⊥)
-      → (number FileTooShort ≤ code) × (code ≤ last_refusal)
-  catalogue_number e n = (omega arith, omega (arith, e, check_code_le cat))
-
   pub catalogue_refused : {code n : ℕ} → code ≡ check_code cat → (code ≡ 0 → ⊥) → n ≡ code
       → refused n ≡ verify_meaning cat file bytes
   unfolding verify_meaning verify_code
@@ -196,3 +185,9 @@ module _ (cat file bytes : List ℕ) where
     where
       held_by : Opened file k first → entries_from file k first ≡ entries_held file
       held_by o = ap₂ (entries_from file) o.count o.place ∙ entries_held_lem file
+
+-- what `?` gives back
+pub handed_back : (r : Result Verified Refusal) (why : Refusal) {m : Reply} → IsErrAnd r (λ e. e ≡ why)
+    → refused (number why) ≡ m → verify_reply r ≡ m
+handed_back (Ok v) why h e = absurd h
+handed_back (Err y) why h e = ap (λ (w : Refusal). refused (number w)) h ∙ e

@@ -1,50 +1,39 @@
--- The answers of `verify::records_true`.
-use mathlib.Core.Path.{ap}
+-- `verify::records_true` meets its contract: target by target.
+use Prim.Native.Nat.{◌<◌}
+use mathlib.Core.Path.{ap, refl, ◌∙◌}
 use mathlib.Core.Bool.{not}
-use Prim.Native.Nat.{◌-◌}
 use native.Mathlib.Omega.{arith}
-use Rattle.evidence.proofs.Answers.{says_yes, says_no, said_yes, said_no, so_far_none, so_far_more, so_far_all}
-use Rattle.verify.proofs.Laws.{held_inside, no_broken, for_tables, of_target, all_targets_true}
+use borrow.Author.Rules.{rules}
+use borrow.Author.Tests.{tests}
+use Rattle.std.proofs.lemmas.Iterator.{serves_from_Range}
+use Rattle.model.specs.Catalogue.{tables}
+use Rattle.evidence.specs.Run.{records_of}
+use Rattle.evidence.proofs.Answers.{says_no, said_yes, said_no, same_answer}
+use Rattle.evidence.proofs.Ranges.{all_below}
+use Rattle.records.specs.True.{AllTrue}
+use Rattle.verify.proofs.Laws.{no_broken, for_tables, all_targets_true}
 use Rattle.verify.proofs.records_true.Goals as goal
 
 pub returns-then-bytes-ne0 : goal.returns-then-bytes-ne0
 returns-then-bytes-ne0 c = says_no (λ h. c.if-bytes-ne0.true (no_broken _ h))
 
-pub all_known-requires : goal.all_known-requires
-all_known-requires c = held_inside _ c.requires.1
-
 pub returns-then-not-all_known : goal.returns-then-not-all_known
 returns-then-not-all_known c =
     says_no (λ h. said_no c.all_known.ensures (ap not c.if-not-all_known.true)
-    (for_tables c.args.cat.now c.args.bytes.now c.requires.1 c.tables-end.ensures h))
+    (for_tables c.args.cat.now c.args.bytes.now c.requires.1 (c.from-end.ensures ∙ c.tables.ensures) h))
 
-pub loop-target-init : goal.loop-target-init
-loop-target-init c = so_far_none
-
-pub target_true-requires : goal.target_true-requires
-target_true-requires c =
-    let end = c.tables-end.ensures in
-    record {
-      accepted = c.requires.0;
-      target_bound = omega (arith, c.loop-target-test.true, end);
-      count_in_bounds = held_inside _ c.requires.1;
-    }
-
-pub returns-then-not-target_true : goal.returns-then-not-target_true
-returns-then-not-target_true c =
-    let end = c.tables-end.ensures in
-    says_no (λ h. said_no c.target_true.ensures (ap not c.if-not-target_true.true)
-    (of_target c.args.cat.now c.args.bytes.now c.requires.1 end h _))
-
-pub loop-target-preserved : goal.loop-target-preserved
-loop-target-preserved c =
-    so_far_more c.loop-target-test.true (said_yes c.target_true.ensures (ap not c.if-not-target_true.false))
-    c.loop-target.invariant
+pub all-requires-clause-callable : goal.all-requires-clause-callable
+all-requires-clause-callable c =
+    serves_from_Range (λ x q k. search (rules, tests))
+    (λ x low high.
+    let known : x < tables c.args.cat.now = omega (arith, high, c.from-end.ensures, c.tables.ensures) in
+    let accepted = c.requires.0 in
+    search rules)
 
 pub returns : goal.returns
 returns c =
-    let end = c.tables-end.ensures in
-    says_yes (all_targets_true c.args.cat.now c.args.bytes.now c.requires.1 end
-    c.if-bytes-ne0.false
-    (said_yes c.all_known.ensures (ap not c.if-not-all_known.false))
-    (so_far_all (omega arith) c.loop-target.invariant))
+    let by = all_targets_true c.args.cat.now c.args.bytes.now c.requires.1 c.if-bytes-ne0.false
+    (said_yes c.all_known.ensures (ap not c.if-not-all_known.false)) in
+    same_answer by.0 by.1
+    (all_below _ _ _ _ (λ t. AllTrue c.args.cat.now t (records_of c.args.records)) c.all.ensures.ran
+    (λ x q k. search (rules, tests)) (λ x q k. search (rules, tests)) refl)

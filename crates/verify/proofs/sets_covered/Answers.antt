@@ -1,33 +1,33 @@
--- The answers of `verify::sets_covered`.
-use mathlib.Core.Path.{ap}
-use mathlib.Core.Bool.{not}
-use Prim.Native.Nat.{◌-◌}
+-- `verify::sets_covered` meets its contract: target by target.
+use Prim.Native.Nat.{◌<◌}
+use mathlib.Core.Path.{refl, ◌∙◌}
 use native.Mathlib.Omega.{arith}
-use Rattle.evidence.proofs.Answers.{says_yes, says_no, said_yes, said_no, so_far_none, so_far_more, so_far_all}
+use borrow.Author.Rules.{rules}
+use borrow.Author.Tests.{tests}
+use Rattle.std.proofs.lemmas.Iterator.{serves_from_Range}
+use Rattle.model.specs.Catalogue.{tables}
+use Rattle.evidence.specs.Run.{records_of}
+use Rattle.evidence.proofs.Answers.{same_answer}
+use Rattle.evidence.proofs.Ranges.{all_below}
+use Rattle.marks.specs.Run.{entries_of}
+use Rattle.coverage.specs.Covered.{TargetCovered}
 use Rattle.verify.proofs.Laws.{all_targets_covered}
 use Rattle.verify.proofs.sets_covered.Goals as goal
 
-pub loop-target-init : goal.loop-target-init
-loop-target-init c = so_far_none
-
-pub target_covered-requires : goal.target_covered-requires
-target_covered-requires c =
-    let s = c in record {
-      accepted = s.requires.0;
-      target_bound = omega (arith, c.loop-target-test.true, c.tables-end.ensures);
-      count_in_bounds = (s.requires.1, s.requires.2, s.requires.3, s.requires.4);
-    }
-
-pub returns-then-not-target_covered : goal.returns-then-not-target_covered
-returns-then-not-target_covered c =
-    says_no (λ h. said_no c.target_covered.ensures (ap not c.if-not-target_covered.true) (h _))
-
-pub loop-target-preserved : goal.loop-target-preserved
-loop-target-preserved c =
-    so_far_more c.loop-target-test.true (said_yes c.target_covered.ensures (ap not c.if-not-target_covered.false))
-    c.loop-target.invariant
+pub all-requires-clause-callable : goal.all-requires-clause-callable
+all-requires-clause-callable c =
+    serves_from_Range (λ x q k. search (rules, tests))
+    (λ x low high.
+    let known : x < tables c.args.cat.now = omega (arith, high, c.from-end.ensures, c.tables.ensures) in
+    let accepted = c.requires.0 in
+    let sound = c.requires.1 in
+    let true-records = c.requires.2 in
+    search rules)
 
 pub returns : goal.returns
 returns c =
-    says_yes (all_targets_covered c.args.cat.now _ c.tables-end.ensures _
-    (so_far_all (omega arith) c.loop-target.invariant))
+    let a = c.args in
+    let by = all_targets_covered a.cat.now _ (c.from-end.ensures ∙ c.tables.ensures) _ in
+    same_answer by.0 by.1
+    (all_below _ _ _ _ (TargetCovered a.cat.now (entries_of a.list) (records_of a.records)) c.all.ensures.ran
+    (λ x q k. search (rules, tests)) (λ x q k. search (rules, tests)) refl)

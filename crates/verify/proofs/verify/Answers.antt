@@ -1,35 +1,28 @@
 -- `verify::verify` meets its contract.
-use mathlib.Core.Path.{sym, ◌∙◌}
+use mathlib.Core.Path.{refl, sym, ◌∙◌}
 use native.Mathlib.Omega.{arith}
+use Rattle.model.proofs.Codes.{number_pos}
 use Rattle.packed.proofs.Opening.{opened}
-use Rattle.verify.proofs.Laws.{catalogue_number, catalogue_refused, list_refused, list_opened}
+use Rattle.verify.proofs.Laws.{handed_back, catalogue_refused, list_refused, list_opened}
 use Rattle.verify.proofs.verify.Goals as goal
 
-pub refusal-requires : goal.refusal-requires
-refusal-requires c =
+pub returns-in_err-check : goal.returns-in_err-check
+returns-in_err-check c =
     let a = c.args in
-    catalogue_number a.cat.now a.list.now a.evidence.now c.check_code-code.ensures c.if-code-ne0.true
+    handed_back _ _ c.from_residual.ensures.1
+    (catalogue_refused a.cat.now a.list.now a.evidence.now c.in_err-check.ensures (number_pos _) refl)
 
-pub returns-then-code-ne0 : goal.returns-then-code-ne0
-returns-then-code-ne0 c =
+pub returns-in_err-opened : goal.returns-in_err-opened
+returns-in_err-opened c =
     let a = c.args in
-    catalogue_refused a.cat.now a.list.now a.evidence.now c.check_code-code.ensures
-    c.if-code-ne0.true c.refusal.ensures
+    handed_back _ _ c.from_residual-in_err-opened.ensures.1
+    (list_refused a.cat.now a.list.now a.evidence.now (sym c.in_ok-check.ensures) c.in_err-opened.ensures)
 
 pub judged-requires : goal.judged-requires
-judged-requires c =
-    (sym c.check_code-code.ensures ∙ c.if-code-ne0.false, omega (arith, (opened _ c.in-Opened.ensures).inside))
+judged-requires c = sym c.in_ok-check.ensures
 
-pub returns-in-Opened : goal.returns-in-Opened
-returns-in-Opened c =
+pub returns : goal.returns
+returns c =
     let a = c.args in
     c.judged.ensures
-    ∙ list_opened a.cat.now a.list.now a.evidence.now
-    (sym c.check_code-code.ensures ∙ c.if-code-ne0.false) (opened _ c.in-Opened.ensures)
-
-pub returns-in-Refused : goal.returns-in-Refused
-returns-in-Refused c =
-    let a = c.args in
-    list_refused a.cat.now a.list.now a.evidence.now
-    (sym c.check_code-code.ensures ∙ c.if-code-ne0.false)
-    c.in-Refused.ensures
+    ∙ list_opened a.cat.now a.list.now a.evidence.now (sym c.in_ok-check.ensures) (opened _ c.in_ok-opened.ensures)
