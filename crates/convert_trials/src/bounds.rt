@@ -1,158 +1,83 @@
 // The album's text cut at every byte and on outputs around the catalogue's length, and texts by other shapes.
-use crate::print::{SHAPE, convert_front, print_converted, trial_by, trial_on};
-use model::ConvertAnswer;
+use crate::print::{SHAPE, print_converted, trial};
+use convert::convert;
+use model::Refusal;
 use std::io;
-use text::{put_byte, put_word};
-use trial_kit::{ALBUM, end, print_count, print_word};
+use trial_kit::ALBUM;
 
-// The album as a text, which has 153 bytes.
-fn put_album(b: &mut [u8]) {
-    let mut at = put_word(b, 0, b"<catalogue>\n <t0 c0='5'><t1 c0='1' c1='7'/></t0>\n");
-    at = put_word(b, at, b" <t0 c0=\"5\"><t1 c1=\"7\" c0=\"3\"></t1></t0>\n");
-    put_word(
-        b,
-        at,
-        b" <t0><t1 c0='1' c1='8'/> <t1 c0='2' c1='8'/></t0>\n</catalogue>\n",
-    );
-}
+// The album as a text.
+const TEXT: [u8; 153] = *b"<catalogue>
+ <t0 c0='5'><t1 c0='1' c1='7'/></t0>
+ <t0 c0=\"5\"><t1 c1=\"7\" c0=\"3\"></t1></t0>
+ <t0><t1 c0='1' c1='8'/> <t1 c0='2' c1='8'/></t0>
+</catalogue>
+";
 
-// Is it refused by 20?
-fn is_bad(answer: ConvertAnswer) -> bool {
-    match answer {
-        ConvertAnswer::Converted { bytes: _ } => false,
-        ConvertAnswer::Refused(why) => refusals::number(why) == refusals::BAD_TEXT,
-    }
-}
+// A text that fits every shape, and one that is not of the form.
+const FIT: &[u8] = b"<catalogue/>";
 
-// Are the first n bytes of a text refused by 20?
-fn is_bad_front(text: &[u8], n: usize) -> bool {
-    let mut out = [7u8; 100];
-    is_bad(convert_front(&SHAPE, text, n, &mut out))
-}
+const BAD: &[u8] = b"<catalogue>5</catalogue>";
 
-// How many fronts of a text, from the empty one on, are refused by 20.
-fn bad_fronts(text: &[u8]) -> u64 {
-    let mut found: u64 = 0;
-    for n in 0..text.len() {
-        if is_bad_front(text, n) {
-            found += 1;
-        }
-    }
-    found
+// Is a text refused by 20?
+fn is_bad(text: &[u8]) -> bool {
+    matches!(convert(&SHAPE, text, &mut [7; 100]), Err(Refusal::BadText))
 }
 
 // The album's text cut at every byte. Only the front that lacks no more than the last line feed is of the form.
 pub fn cuts(rt: &impl Print) -> io::Result<()> {
-    let mut text = [0u8; 153];
-    put_album(&mut text);
-    print_word(rt, b"cut at every byte: refused 20 for")?;
-    print_count(rt, bad_fronts(&text))?;
-    print_word(rt, b" of")?;
-    print_count(rt, text.len() as u64)?;
-    end(rt)
+    let bad = (0..TEXT.len())
+        .filter(|n| TEXT.get(..*n).is_some_and(is_bad))
+        .count();
+    println!(rt; "cut at every byte: refused 20 for {bad} of {}", TEXT.len())
 }
 
-// How many bytes from the start on are the same in both.
-fn alike(a: &[u8], b: &[u8]) -> usize {
-    for i in 0..a.len() {
-        if b.len() <= i {
-            return i;
-        }
-        if a[i] != b[i] {
-            return i;
-        }
-    }
-    a.len()
-}
-
-// How many bytes from a position on are still 7.
-fn sevens(out: &[u8], at: usize) -> usize {
-    let unwritten = [7u8; 100];
-    if at <= out.len() {
-        return alike(&out[at..], &unwritten);
-    }
-    0
-}
-
-// How many bytes of an output are the album's, and how many behind these are still 7, to the end of the line.
-fn print_output(rt: &impl Print, out: &[u8]) -> io::Result<()> {
-    let written = alike(out, &ALBUM);
-    print_word(rt, b",")?;
-    print_count(rt, written as u64)?;
-    print_word(rt, b" bytes of the album and")?;
-    print_count(rt, sevens(out, written) as u64)?;
-    print_word(rt, b" of 7\n")
-}
-
-// The album's text on an output, whose bytes are all 7 before.
-fn trial_output(rt: &impl Print, out: &mut [u8]) -> io::Result<()> {
-    let mut text = [0u8; 153];
-    put_album(&mut text);
-    print_word(rt, b"output of")?;
-    print_count(rt, out.len() as u64)?;
-    print_converted(rt, convert::convert(&SHAPE, &text, out))?;
-    print_output(rt, out)
+// The album's text on an output, whose bytes are all 7 before: how many bytes of it are the album's then, and how many
+// behind these are still 7.
+fn trial_output<const N: usize>(rt: &impl Print) -> io::Result<()> {
+    let mut out = [7u8; N];
+    print!(rt; "output of {N}")?;
+    print_converted(rt, &SHAPE, &TEXT, &mut out)?;
+    let written = out.iter().zip(&ALBUM).take_while(|(a, b)| a == b).count();
+    let unwritten = out.iter().skip(written).take_while(|x| **x == 7).count();
+    println!(rt; ", {written} bytes of the album and {unwritten} of 7")
 }
 
 // On outputs that are longer, just fit, and are one byte short.
 pub fn outputs(rt: &impl Print) -> io::Result<()> {
-    let mut long = [7u8; 85];
-    trial_output(rt, &mut long)?;
-    let mut fits = [7u8; 84];
-    trial_output(rt, &mut fits)?;
-    let mut short = [7u8; 83];
-    trial_output(rt, &mut short)
+    trial_output::<85>(rt)?;
+    trial_output::<84>(rt)?;
+    trial_output::<83>(rt)
 }
 
 // On an output of no byte: 20 before 21 before 22.
 pub fn no_output(rt: &impl Print) -> io::Result<()> {
-    let mut out = [7u8; 0];
-    trial_on(
-        rt,
-        b"bad text on no output",
-        &SHAPE,
-        b"<catalogue><t2/>5</catalogue>",
-        &mut out,
-    )?;
-    trial_on(
-        rt,
-        b"unfit text on no output",
-        &SHAPE,
-        b"<catalogue><t2/></catalogue>",
-        &mut out,
-    )?;
-    trial_on(
-        rt,
-        b"fit text on no output",
-        &SHAPE,
-        b"<catalogue/>",
-        &mut out,
-    )
+    for (name, text) in [
+        (
+            "bad text on no output",
+            &b"<catalogue><t2/>5</catalogue>"[..],
+        ),
+        ("unfit text on no output", b"<catalogue><t2/></catalogue>"),
+        ("fit text on no output", FIT),
+    ] {
+        trial(rt, name, &SHAPE, text, &mut [])?;
+    }
+    Ok(())
 }
 
-// A trial by another shape, of a text that fits every shape and of one that is not of the form.
-fn trial_fit(rt: &impl Print, name: &[u8], shape: &[u8]) -> io::Result<()> {
-    trial_by(rt, name, shape, b"<catalogue/>")
-}
-
-fn trial_bad(rt: &impl Print, name: &[u8], shape: &[u8]) -> io::Result<()> {
-    trial_by(rt, name, shape, b"<catalogue>5</catalogue>")
-}
-
-// The album with a row of table 1 that is under row 3 of the 3 rows of table 0.
-fn trial_stray(rt: &impl Print) -> io::Result<()> {
-    let mut stray = [0u8; 84];
-    put_word(&mut stray, 0, &ALBUM);
-    put_byte(&mut stray, 30, 3);
-    trial_bad(rt, b"shape with a stray row, bad text", &stray)
-}
-
-// 1 to 7 on the shape, then 20 on the text, and 21 where the shape has rows.
+// 1 to 7 on the shape, then 20 on the text, and 21 where the shape has rows. The stray row is the album's first row of
+// table 1, under row 3 of the 3 rows of table 0.
 pub fn shapes(rt: &impl Print) -> io::Result<()> {
-    trial_fit(rt, b"shape of 15 bytes", &SHAPE[..15])?;
-    trial_bad(rt, b"shape of 15 bytes, bad text", &SHAPE[..15])?;
-    trial_bad(rt, b"shape without its last byte, bad text", &SHAPE[..25])?;
-    trial_stray(rt)?;
-    trial_bad(rt, b"shape with rows, bad text", &ALBUM)?;
-    trial_fit(rt, b"shape with rows", &ALBUM)
+    let mut stray = ALBUM;
+    stray[30] = 3;
+    for (name, shape, text) in [
+        ("shape of 15 bytes", &SHAPE[..15], FIT),
+        ("shape of 15 bytes, bad text", &SHAPE[..15], BAD),
+        ("shape without its last byte, bad text", &SHAPE[..25], BAD),
+        ("shape with a stray row, bad text", &stray, BAD),
+        ("shape with rows, bad text", &ALBUM, BAD),
+        ("shape with rows", &ALBUM, FIT),
+    ] {
+        trial(rt, name, shape, text, &mut [7; 100])?;
+    }
+    Ok(())
 }

@@ -9,21 +9,15 @@ mod large;
 mod print;
 
 use bounds::{cuts, no_output, outputs, shapes};
+use fine::TEXTS;
 use large::{deep, many};
+use print::{SHAPE, trial};
 use std::io;
 
 fn main(rt: HostRuntime) -> io::Result<()> {
-    fine::white_space(&rt)?;
-    fine::no_white_space(&rt)?;
-    fine::before_attributes(&rt)?;
-    fine::quotes(&rt)?;
-    fine::ends(&rt)?;
-    fine::names(&rt)?;
-    fine::numbers(&rt)?;
-    fine::twice(&rt)?;
-    fine::others(&rt)?;
-    fine::unfit(&rt)?;
-    fine::order(&rt)?;
+    for (name, text) in TEXTS {
+        trial(&rt, name, &SHAPE, text, &mut [7; 100])?;
+    }
     cuts(&rt)?;
     outputs(&rt)?;
     no_output(&rt)?;

@@ -1,137 +1,54 @@
 // One trial: both calls on the same question, and what they answered on a line: the reply of `ask`, how many work
 // words were 0 after it, and the same of `pair`. All work words are 7 before each call, and there is one more than is
 // ever lent.
-use model::{AskAnswer, PairAnswer};
+use dependency::{ask, pair};
+use model::Refusal;
 use std::io;
-use trial_kit::{end, print_count, print_refusal, print_word, print_zeros, soil};
+use trial_kit::print_answer;
 
-// What `ask` answered, on the line.
-fn print_ask(rt: &impl Print, r: AskAnswer) -> io::Result<()> {
-    match r {
-        AskAnswer::Holds => print_word(rt, b" holds")?,
-        AskAnswer::Breaks => print_word(rt, b" breaks")?,
-        AskAnswer::Refused(why) => print_refusal(rt, why)?,
-    }
-    Ok(())
-}
+// A trial's name, and its question: the catalogue, the target, the left side and the right side.
+pub type Case<'a> = (&'a str, &'a [u8], u32, u32, u32);
 
-// What `pair` answered, on the line.
-fn print_pair(rt: &impl Print, r: PairAnswer) -> io::Result<()> {
-    match r {
-        PairAnswer::Rows { first, second } => {
-            print_count(rt, first as u64)?;
-            print_count(rt, second as u64)?;
-        }
-        PairAnswer::Nothing => print_word(rt, b" none")?,
-        PairAnswer::Refused(why) => print_refusal(rt, why)?,
-    }
-    Ok(())
-}
-
-// The question, on so many of the work words, and how many of all words are 0 afterwards.
-fn ask_front(
+// What a call on so many of the work words answers, as the closure prints it, and how many of all words are 0
+// afterwards.
+fn print_call<T: Drop, C: FnOnce(&mut [u32]) -> Result<T, Refusal>, P: FnOnce(T) -> io::Result<()>>(
     rt: &impl Print,
-    cat: &[u8],
-    target: u32,
-    left: u32,
-    right: u32,
     words: usize,
-    work: &mut [u32],
-) -> io::Result<()> {
-    if words <= work.len() {
-        print_ask(
-            rt,
-            dependency::ask(cat, target, left, right, &mut work[..words]),
-        )?;
-    }
-    Ok(())
+    call: C,
+    print: P,
+) -> io::Result<()>
+    requires called { C.IsAlwaysCallable call }
+    requires printed { P.IsAlwaysCallable print }
+{
+    let mut work = [7u32; 16385];
+    let lent = words.min(work.len());
+    print!(rt; " ")?;
+    print_answer(rt, call(&mut work[..lent]), print)?;
+    print!(rt; " {}", work.iter().filter(|word| **word == 0).count())
 }
 
-fn asked(
-    rt: &impl Print,
-    cat: &[u8],
-    target: u32,
-    left: u32,
-    right: u32,
-    words: usize,
-    work: &mut [u32],
-) -> io::Result<()> {
-    soil(work);
-    ask_front(rt, cat, target, left, right, words, work)?;
-    print_zeros(rt, work)
-}
-
-// The first breaking pair, likewise.
-fn pair_front(
-    rt: &impl Print,
-    cat: &[u8],
-    target: u32,
-    left: u32,
-    right: u32,
-    words: usize,
-    work: &mut [u32],
-) -> io::Result<()> {
-    if words <= work.len() {
-        print_pair(
-            rt,
-            dependency::pair(cat, target, left, right, &mut work[..words]),
-        )?;
-    }
-    Ok(())
-}
-
-fn paired(
-    rt: &impl Print,
-    cat: &[u8],
-    target: u32,
-    left: u32,
-    right: u32,
-    words: usize,
-    work: &mut [u32],
-) -> io::Result<()> {
-    soil(work);
-    pair_front(rt, cat, target, left, right, words, work)?;
-    print_zeros(rt, work)
-}
-
-// Both on a line that starts with the trial's name.
-fn both(
-    rt: &impl Print,
-    name: &[u8],
-    cat: &[u8],
-    target: u32,
-    left: u32,
-    right: u32,
-    words: usize,
-    work: &mut [u32],
-) -> io::Result<()> {
-    print_word(rt, name)?;
-    asked(rt, cat, target, left, right, words, work)?;
-    paired(rt, cat, target, left, right, words, work)?;
-    end(rt)
-}
-
-pub fn trial_on(
-    rt: &impl Print,
-    name: &[u8],
-    cat: &[u8],
-    target: u32,
-    left: u32,
-    right: u32,
-    words: usize,
-) -> io::Result<()> {
-    let mut work = [0u32; 16385];
-    both(rt, name, cat, target, left, right, words, &mut work)
+pub fn trial_on(rt: &impl Print, case: Case<'_>, words: usize) -> io::Result<()> {
+    let (name, cat, target, left, right) = case;
+    print!(rt; "{name}")?;
+    print_call(
+        rt,
+        words,
+        |work| ask(cat, target, left, right, work),
+        |holds| print!(rt; "{}", if holds { "holds" } else { "breaks" }),
+    )?;
+    print_call(
+        rt,
+        words,
+        |work| pair(cat, target, left, right, work),
+        |pair| match pair {
+            Some(rows) => print!(rt; "{} {}", rows.first, rows.second),
+            None => print!(rt; "none"),
+        },
+    )?;
+    println!(rt; "")
 }
 
 // The same on as many work words as a call needs.
-pub fn trial(
-    rt: &impl Print,
-    name: &[u8],
-    cat: &[u8],
-    target: u32,
-    left: u32,
-    right: u32,
-) -> io::Result<()> {
-    trial_on(rt, name, cat, target, left, right, 16384)
+pub fn trial(rt: &impl Print, case: Case<'_>) -> io::Result<()> {
+    trial_on(rt, case, 16384)
 }

@@ -88,12 +88,17 @@ impl<'a> Output<'a> {
 }
 
 // One table of n columns and r rows, with the code `first(k)` in the first column of row k and 5 in every other.
-pub fn flat<F: Fn(u32) -> u32>(b: &mut [u8], n: u32, r: u32, first: F) -> &[u8]
+pub fn coded<F: Fn(u32) -> u32>(b: &mut [u8], n: u32, r: u32, first: F) -> &[u8]
     requires { F.IsAlwaysCallable first }
 {
     let mut out = Output::new(b);
     out.put_table(n, NONE, r, first);
     out.finish(1, 0)
+}
+
+// The same whose first column is a key.
+pub fn flat(b: &mut [u8], n: u32, r: u32) -> &[u8] {
+    coded(b, n, r, |k| k)
 }
 
 // One table of n columns, in which a set has entries: a row with the code 0 in the set alone, and for each member one

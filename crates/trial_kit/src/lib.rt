@@ -9,5 +9,5 @@ mod build;
 mod line;
 
 pub use album::{ALBUM, EMPTY, EQUAL, GROUPS, LONE, MISSING_TWICE, THREE, TWO_KEYS};
-pub use build::{deep, flat, keyed, two};
-pub use line::{listed, print_answer, print_entry, print_listed};
+pub use build::{coded, deep, flat, keyed, two};
+pub use line::{listed, print_answer, print_entry, print_listed, same};

@@ -1,103 +1,48 @@
-// One listing call, and what it answered on a line: the next place, how many sets it passed and how many entries they
-// have, or the refusal; then how many records of the run are not zero (an entry 0 0 0 is), how many work words are 0,
-// and the entries. All work words are 7 and all records are zero before the call, and there is one work word more
-// than is ever lent.
-use listing::{Filled, list_filled};
+// What the check answered, and a listing call, on a line. The answer to the call is the next place, how many sets it
+// passed and how many entries they have, or the refusal; then stand how many records of the run are not zero (an entry
+// 0 0 0 is), how many work words are 0, and the entries. All work words are 7 and all records are zero before the call,
+// and there is one work word more than is ever lent.
+use listing::list_filled;
 use model::Entry;
 use std::io;
-use trial_kit::{
-    end, entries, print_count, print_entry, print_listed, print_word, print_zeros, soil,
-};
+use trial_kit::{listed, print_answer, print_entry, print_listed};
+
+// A trial's name, and its call: the catalogue, the place, the budget and how many records the run has.
+pub type Case<'a> = (&'a str, &'a [u8], u32, u32, usize);
+
+pub fn check(rt: &impl Print, name: &str, cat: &[u8]) -> io::Result<()> {
+    print!(rt; "{name} ")?;
+    print_answer(
+        rt,
+        catalogue::check(cat),
+        |c| print!(rt; "sound {} {}", c.tables, c.sets),
+    )?;
+    println!(rt; "")
+}
 
 // Is the record as it was?
-fn is_zero(e: Entry) -> bool {
-    if e.target != 0 {
-        return false;
-    }
-    if e.right != 0 {
-        return false;
-    }
-    e.left == 0
-}
-
-// How many records of the run are not zero, on the line.
-fn print_touched(rt: &impl Print, filled: &Filled) -> io::Result<()> {
-    let mut n: usize = 0;
-    for e in &filled.run {
-        if !is_zero(*e) {
-            n += 1;
-        }
-    }
-    print_count(rt, n as u64)
-}
-
-// The first entries of the run, on the line.
-fn print_entries(rt: &impl Print, filled: &Filled, count: u32) -> io::Result<()> {
-    for e in filled.run.iter().take(count as usize) {
-        print_entry(rt, *e)?;
-    }
-    Ok(())
+fn is_zero(e: &Entry) -> bool {
+    (e.target, e.right, e.left) == (0, 0, 0)
 }
 
 // The call on so many of the work words.
-fn list_front(
-    cat: &[u8],
-    place: u32,
-    budget: u32,
-    room: usize,
-    words: usize,
-    work: &mut [u32],
-) -> Filled {
-    if words <= work.len() {
-        return list_filled(cat, place, budget, room, &mut work[..words]);
+pub fn trial_on(rt: &impl Print, case: Case<'_>, words: usize) -> io::Result<()> {
+    let (name, cat, place, budget, room) = case;
+    let mut work = [7u32; 16385];
+    let lent = words.min(work.len());
+    let filled = list_filled(cat, place, budget, room, &mut work[..lent]);
+    print!(rt; "{name} ")?;
+    print_listed(rt, filled.answer)?;
+    let records = filled.run.iter().filter(|e| !is_zero(e)).count();
+    let zeros = work.iter().filter(|word| **word == 0).count();
+    print!(rt; " records {records} zeros {zeros}")?;
+    for e in listed(filled.answer, &filled.run) {
+        print_entry(rt, *e)?;
     }
-    list_filled(cat, place, budget, room, work)
-}
-
-fn on_words(
-    rt: &impl Print,
-    name: &[u8],
-    cat: &[u8],
-    place: u32,
-    budget: u32,
-    room: usize,
-    words: usize,
-    work: &mut [u32],
-) -> io::Result<()> {
-    soil(work);
-    let filled = list_front(cat, place, budget, room, words, work);
-    let answer = filled.answer;
-    print_word(rt, name)?;
-    print_listed(rt, answer)?;
-    print_word(rt, b" records")?;
-    print_touched(rt, &filled)?;
-    print_word(rt, b" zeros")?;
-    print_zeros(rt, work)?;
-    print_entries(rt, &filled, entries(answer))?;
-    end(rt)
-}
-
-pub fn trial_on(
-    rt: &impl Print,
-    name: &[u8],
-    cat: &[u8],
-    place: u32,
-    budget: u32,
-    room: usize,
-    words: usize,
-) -> io::Result<()> {
-    let mut work = [0u32; 16385];
-    on_words(rt, name, cat, place, budget, room, words, &mut work)
+    println!(rt; "")
 }
 
 // The same on as many work words as a call needs.
-pub fn trial(
-    rt: &impl Print,
-    name: &[u8],
-    cat: &[u8],
-    place: u32,
-    budget: u32,
-    room: usize,
-) -> io::Result<()> {
-    trial_on(rt, name, cat, place, budget, room, 16384)
+pub fn trial(rt: &impl Print, case: Case<'_>) -> io::Result<()> {
+    trial_on(rt, case, 16384)
 }
