@@ -31,12 +31,11 @@ pub fn cuts(rt: &impl Print) -> io::Result<()> {
     println!(rt; "cut at every byte: refused 20 for {bad} of {}", TEXT.len())
 }
 
-// The album's text on an output, whose bytes are all 7 before: how many bytes of it are the album's then, and how many
-// behind these are still 7.
-fn trial_output<const N: usize>(rt: &impl Print) -> io::Result<()> {
-    let mut out = [7u8; N];
-    print!(rt; "output of {N}")?;
-    print_converted(rt, &SHAPE, &TEXT, &mut out)?;
+// The album's text on an output: how many bytes of it are the album's then, and how many behind these are 7, as all
+// were before.
+fn trial_output(rt: &impl Print, out: &mut [u8]) -> io::Result<()> {
+    print!(rt; "output of {}", out.len())?;
+    print_converted(rt, &SHAPE, &TEXT, out)?;
     let written = out.iter().zip(&ALBUM).take_while(|(a, b)| a == b).count();
     let unwritten = out.iter().skip(written).take_while(|x| **x == 7).count();
     println!(rt; ", {written} bytes of the album and {unwritten} of 7")
@@ -44,9 +43,9 @@ fn trial_output<const N: usize>(rt: &impl Print) -> io::Result<()> {
 
 // On outputs that are longer, just fit, and are one byte short.
 pub fn outputs(rt: &impl Print) -> io::Result<()> {
-    trial_output::<85>(rt)?;
-    trial_output::<84>(rt)?;
-    trial_output::<83>(rt)
+    trial_output(rt, &mut [7; 85])?;
+    trial_output(rt, &mut [7; 84])?;
+    trial_output(rt, &mut [7; 83])
 }
 
 // On an output of no byte: 20 before 21 before 22.
