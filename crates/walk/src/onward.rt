@@ -7,6 +7,7 @@ ghost use Rattle.walk.specs.Meaning.{Good};
 ghost use Rattle.walk.specs.Walks.{Fresh, moved_to, Passes, Follows, Goes};
 
 use columns::ColumnSet;
+use layout::Target;
 use passing::{Walk, passed};
 use rights::Entered;
 
@@ -17,7 +18,8 @@ fn pass(cat: &[u8], w: Walk, work: &mut [u32]) -> Option<Walk>
     requires ready { Ready (ordinary cat.now) w.target w.held w.own work.old }
     ensures { Passes (ordinary cat.now) w result work.new }
 {
-    let mask = rights::rights(cat, w.target, w.members, w.left, w.held, w.own, work);
+    let target = Target { cat, table: w.target };
+    let mask = rights::rights(target, w.members, w.left, w.held, w.own, work);
     passed(w, mask)
 }
 
@@ -42,13 +44,14 @@ pub fn pass_first(cat: &[u8], w: Walk, work: &mut [u32]) -> Option<Walk>
     requires fresh { Fresh (ordinary cat.now) w work.old }
     ensures { Passes (ordinary cat.now) w result work.new }
 {
+    let target = Target { cat, table: w.target };
     if w.budget == 1 {
-        let mask = rights::alone(cat, w.target, w.left, work);
+        let mask = rights::alone(target, w.left, work);
         return passed(w, mask);
     }
-    let entered = rights::prepare(cat, w.target, work);
+    let entered = rights::prepare(target, work);
     let v = entering(w, w.target, w.left, w.members, entered);
-    let mask = rights::rights(cat, v.target, v.members, v.left, v.held, v.own, work);
+    let mask = rights::rights(target, v.members, v.left, v.held, v.own, work);
     passed(v, mask)
 }
 
@@ -64,14 +67,14 @@ fn following(cat: &[u8], w: Walk, work: &mut [u32]) -> Option<Walk>
     match here.next(w.members) {
         Some(s) => { Some(Walk { left: s.bits, ..w }) }
         None => {
-            let target = w.target + 1;
+            let table = w.target + 1;
             let n = layout::tables(cat) as u32;
-            if n <= target {
+            if n <= table {
                 return None;
             }
-            let entered = rights::prepare(cat, target, work);
-            let members = layout::visible(cat, target);
-            Some(entering(w, target, ColumnSet::EMPTY.bits, members, entered))
+            let target = Target { cat, table };
+            let entered = rights::prepare(target, work);
+            Some(entering(w, table, ColumnSet::EMPTY.bits, target.members(), entered))
         }
     }
 }
