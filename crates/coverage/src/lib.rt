@@ -7,8 +7,6 @@
 
 ghost use Rattle.std.specs.Prelude.{◌≤◌, ◌<◌, ◌≡◌, true, ◌↔◌};
 ghost use Rattle.model.specs.Bounds.{row};
-ghost use Rattle.model.specs.Catalogue.{tables};
-ghost use Rattle.model.specs.Check.{Accepted};
 ghost use Rattle.model.specs.Evidence.{TrueRecord};
 ghost use Rattle.model.specs.Verify.{SoundEntries};
 ghost use Rattle.model.specs.View.{View};
@@ -22,7 +20,7 @@ ghost use Rattle.marks.specs.Run.{entries_of};
 ghost use Rattle.coverage.specs.Covered.{RightCovered, TargetCovered};
 
 use evidence::EvidenceRecords;
-use layout::{inherited, visible};
+use layout::Target;
 use marks::{PackedEntries, all_covered, close_lefts, close_sets, wide};
 use model::ROW;
 use planes::PLANE;
@@ -55,26 +53,21 @@ fn right_covered(
 }
 
 // Are the backed sets of a target covered, where all entries are sound and all records true?
-pub fn target_covered(
-    cat: &[u8],
-    target: u32,
-    list: PackedEntries,
-    records: EvidenceRecords,
-) -> bool
-    requires accepted { Accepted cat.now }
-    requires target_bound { target < tables cat.now }
-    requires sound { SoundEntries cat.now (entries_of list) × Each (TrueRecord cat.now) (records_of records) }
-    ensures { (result ≡ true) ↔ TargetCovered cat.now (entries_of list.entry) (records_of records.entry) target }
+pub fn target_covered(target: Target, list: PackedEntries, records: EvidenceRecords) -> bool
+    requires { SoundEntries target.cat.now (entries_of list) × Each (TrueRecord target.cat.now) (records_of records) }
+    ensures { (result ≡ true)
+        ↔ TargetCovered target.entry.cat.now (entries_of list.entry) (records_of records.entry) target.entry.table }
 {
-    let n = visible(cat, target);
+    let table = target.table;
+    let n = target.members();
     let m = wide(n);
     let mut backed = [0; PLANE];
-    backed_plane(cat, target, n, m, &mut backed);
+    backed_plane(target, m, &mut backed);
     let mut keys = [0; PLANE];
-    close_lefts(list, target, ROW, m, &mut keys);
-    let low = inherited(cat, target);
+    close_lefts(list, table, ROW, m, &mut keys);
+    let low = target.inherited();
     for a in low..n + 1 {
-        if !right_covered(list, records, target, n, m, a, &backed, &keys) {
+        if !right_covered(list, records, table, n, m, a, &backed, &keys) {
             return false;
         }
     }

@@ -5,6 +5,7 @@ use mathlib.Core.List.{List}
 use Rattle.model.specs.Catalogue.{tables, rows, visible}
 use Rattle.model.specs.Check.{Accepted}
 use Rattle.model.specs.Target.{view}
+use Rattle.model.specs.View.{View}
 use Rattle.model.proofs.Check.{accepted_rows, accepted_visible}
 use Rattle.model.proofs.Target.{view_equivalence}
 use Rattle.leaders.specs.Keys.{LaidFor, Keyed}
@@ -24,3 +25,10 @@ laid_all cat target n m keys ok l e f laid =
     subst (λ (k : ℕ). Keyed (view cat target) (2 ^ n - 1) k (rows cat target) keys) (sym e)
     (laid_catalogue cat target (2 ^ n - 1) keys ok l
     (subst (λ (k : ℕ). LaidFor (view cat target) (k - 1) keys) f laid))
+
+-- the same with the numbers of members and rows as they were read
+pub keyed_for : (v : View) {n m end rows : ℕ} {keys : List ℕ} → n ≡ m → end ≡ rows → Keyed v (2 ^ m - 1) m rows keys
+    → Keyed v (2 ^ n - 1) n end keys
+keyed_for v {n} {rows = rows} {keys = keys} d e keyed =
+    subst (λ (k : ℕ). Keyed v (2 ^ n - 1) n k keys) (sym e)
+    (subst (λ (k : ℕ). Keyed v (2 ^ k - 1) k rows keys) (sym d) keyed)

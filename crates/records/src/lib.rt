@@ -7,8 +7,6 @@
 ghost use Rattle.std.specs.Prelude.{◌≤◌, ◌<◌, ◌≡◌, true, ◌↔◌};
 ghost use Rattle.columns.specs.Bound.{column_bound};
 ghost use Rattle.model.specs.Bounds.{row, row_bound};
-ghost use Rattle.model.specs.Catalogue.{tables};
-ghost use Rattle.model.specs.Check.{Accepted};
 ghost use Rattle.model.specs.View.{AgreeOn, agree_right};
 ghost use Rattle.leaders.specs.Keys.{key_view};
 ghost use Rattle.evidence.specs.Lists.{Each};
@@ -17,7 +15,7 @@ ghost use Rattle.records.specs.True.{AgreeAt, TrueBy, TrueByFor, AllTrueBy, AllT
 
 use evidence::{EvidenceRecords, sides_fit};
 use keys::lay_all;
-use layout::{inherited, rows, visible};
+use layout::Target;
 use leaders::{ROWS, SIZE};
 use model::{Evidence, ROW};
 
@@ -98,15 +96,12 @@ pub fn all_known(records: EvidenceRecords, tables: u32) -> bool
 }
 
 // Are the records of a target true?
-pub fn target_true(cat: &[u8], target: u32, records: EvidenceRecords) -> bool
-    requires accepted { Accepted cat.now }
-    requires target_bound { target < tables cat.now }
-    ensures { (result ≡ true) ↔ AllTrue cat.now target (records_of records.entry) }
+pub fn target_true(target: Target, records: EvidenceRecords) -> bool
+    ensures { (result ≡ true) ↔ AllTrue target.entry.cat.now target.entry.table (records_of records.entry) }
 {
-    let n = visible(cat, target);
     let mut all = [0u16; SIZE];
-    lay_all(cat, target, n, &mut all);
-    let end = rows(cat, target) as usize;
-    let low = inherited(cat, target);
-    all_true(&all, n, low, end, target, records)
+    lay_all(target, &mut all);
+    let n = target.members();
+    let low = target.inherited();
+    all_true(&all, n, low, target.rows(), target.table, records)
 }

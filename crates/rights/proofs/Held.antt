@@ -225,13 +225,6 @@ module _ (cat : List ℕ) (target : ℕ) where
         row = (own_rights_bit cat target (visible cat target)).1 (inherited_visible cat target, omega arith);
       }
 
-  pub keyed_rows : {n end : ℕ} {keys : List ℕ} → n ≡ visible cat target → end ≡ rows cat target
-      → Keyed (view cat target) (2 ^ visible cat target - 1) (visible cat target) (rows cat target) keys
-      → Keyed (view cat target) (2 ^ n - 1) n end keys
-  keyed_rows {n} {keys = keys} d e keyed =
-      subst (λ (m : ℕ). Keyed (view cat target) (2 ^ n - 1) n m keys) (sym e)
-      (subst (λ (m : ℕ). Keyed (view cat target) (2 ^ m - 1) m (rows cat target) keys) (sym d) keyed)
-
   pub sets_rows : {n end : ℕ} {sets : List ℕ} → n ≡ visible cat target → end ≡ rows cat target
       → PresentSets (view cat target) (visible cat target) (rows cat target) sets
       → PresentSets (view cat target) n end sets

@@ -145,11 +145,6 @@ module _ (cat : List ℕ) (target : ℕ) (es : List Entry) where
           wide_right e is (inr v) =
               inr (omega (arith, el, ap (inherited cat) is, v.0), omega (arith, en, ap (visible cat) is, v.1))
 
--- the keys of a table, with the number of its rows as it was read
-pub keyed_end : (v : View) {set n end rows : ℕ} {keys : List ℕ} → end ≡ rows → Keyed v set n rows keys
-    → Keyed v set n end keys
-keyed_end v {set} {n} {keys = keys} e keyed = subst (λ (m : ℕ). Keyed v set n m keys) (sym e) keyed
-
 -- the entries for the right of bit a are sound, in every view that the seeds and the backed lefts are of
 abbrev pub SoundAt : List Entry → ℕ → ℕ → ℕ → List ℕ → List ℕ → ℕ → Type 0
 SoundAt es target n m seeds backed a =

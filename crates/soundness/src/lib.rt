@@ -10,10 +10,8 @@
 ghost use Rattle.std.specs.Prelude.{ℕ, ◌+◌, ◌≤◌, ◌<◌, ◌≡◌, true, ◌↔◌, length};
 ghost use Rattle.columns.specs.Bound.{column_bound};
 ghost use Rattle.model.specs.Bounds.{row};
-ghost use Rattle.model.specs.Catalogue.{tables, visible as visible_of};
-ghost use Rattle.model.specs.Check.{Accepted};
 ghost use Rattle.model.specs.Rights.{right_at};
-ghost use Rattle.model.specs.Target.{view};
+ghost use Rattle.layout.specs.Targets.{view_of};
 ghost use Rattle.model.specs.View.{View, Equivalence};
 ghost use Rattle.planes.specs.Marks.{RoomFor};
 ghost use Rattle.planes.specs.Plane.{SeedsBelow, BackedPlane};
@@ -25,7 +23,7 @@ ghost use Rattle.soundness.specs.Sound.{FitsFor, SoundIn, SoundFor};
 
 use evidence::sides_fit;
 use keys::lay_all;
-use layout::{inherited, rows, visible};
+use layout::Target;
 use leaders::SIZE;
 use marks::{PackedEntries, close_lefts, entries_sound, wide};
 use model::{Entry, ROW};
@@ -58,17 +56,13 @@ pub fn all_known(list: PackedEntries, tables: u32) -> bool
 }
 
 // The agree sets that occur in the target, as seeds among the sets of m columns.
-fn sow(cat: &[u8], target: u32, n: u32, m: u32, seeds: &mut [u32])
-    requires accepted { Accepted cat.now }
-    requires target_bound { target < tables cat.now }
-    requires n_value { (n ≡ visible_of cat.now target) × RoomFor m seeds.old }
-    ensures { (length seeds.new ≡ length seeds.old)
-        × SeedsBelow (view cat.now target) m seeds.new }
+fn sow(target: Target, m: u32, seeds: &mut [u32])
+    requires { RoomFor m seeds.old }
+    ensures { (length seeds.new ≡ length seeds.old) × SeedsBelow (view_of target.entry) m seeds.new }
 {
     let mut all = [0u16; SIZE];
-    lay_all(cat, target, n, &mut all);
-    let end = rows(cat, target) as usize;
-    sow_among(&all, n, m, end, seeds);
+    lay_all(target, &mut all);
+    sow_among(&all, target.members(), m, target.rows(), seeds);
 }
 
 // Are the entries sound that are for the target and the right of bit a?
@@ -125,22 +119,21 @@ fn rights_sound(
 }
 
 // Are the entries of a target sound?
-pub fn target_sound(cat: &[u8], target: u32, list: PackedEntries) -> bool
-    requires accepted { Accepted cat.now }
-    requires target_bound { target < tables cat.now }
-    ensures { (result ≡ true) ↔ SoundFor cat.now target (entries_of list.entry) }
+pub fn target_sound(target: Target, list: PackedEntries) -> bool
+    ensures { (result ≡ true) ↔ SoundFor target.entry.cat.now target.entry.table (entries_of list.entry) }
 {
-    let n = visible(cat, target);
-    let low = inherited(cat, target);
-    if !entries_fit(list, target, n, low) {
+    let table = target.table;
+    let n = target.members();
+    let low = target.inherited();
+    if !entries_fit(list, table, n, low) {
         return false;
     }
     let m = wide(n);
     let mut seeds = [0; PLANE];
-    sow(cat, target, n, m, &mut seeds);
+    sow(target, m, &mut seeds);
     let mut backed = [0; PLANE];
-    backed_plane(cat, target, n, m, &mut backed);
+    backed_plane(target, m, &mut backed);
     let mut keys = [0; PLANE];
-    close_lefts(list, target, ROW, m, &mut keys);
-    rights_sound(list, target, n, m, low, &seeds, &backed, &keys)
+    close_lefts(list, table, ROW, m, &mut keys);
+    rights_sound(list, table, n, m, low, &seeds, &backed, &keys)
 }

@@ -36,7 +36,7 @@ fn records_true(cat: &[u8], bytes: &[u8], records: EvidenceRecords) -> bool
     if !records::all_known(records, end) {
         return false;
     }
-    (0..end).all(|target| target_true(cat, target, records))
+    (0..end).all(|table| target_true(Target { cat, table }, records))
 }
 
 // 18: is every entry sound?
@@ -48,7 +48,7 @@ fn entries_sound(cat: &[u8], list: PackedEntries) -> bool
     if !soundness::all_known(list, end) {
         return false;
     }
-    (0..end).all(|target| target_sound(cat, target, list))
+    (0..end).all(|table| target_sound(Target { cat, table }, list))
 }
 
 // 19: is every backed set covered, where all entries are sound and all records true?
@@ -58,7 +58,7 @@ fn sets_covered(cat: &[u8], list: PackedEntries, records: EvidenceRecords) -> bo
     ensures { (result ≡ true) ↔ CoveredSets cat.now (entries_of list.entry) (records_of records.entry) }
 {
     let end = u32::from(tables(cat));
-    (0..end).all(|target| target_covered(cat, target, list, records))
+    (0..end).all(|table| target_covered(Target { cat, table }, list, records))
 }
 
 // What is answered where neither the catalogue nor the list is refused: 17 over all records, then 18 over all entries,

@@ -4,7 +4,8 @@ use mathlib.Core.Path.{sym, subst}
 use Rattle.std.proofs.lemmas.Option.{MatchOption-at_some}
 use Rattle.layout.specs.Targets.{members_in}
 use Rattle.model.specs.Listing.{ordinary}
-use Rattle.rights.proofs.Held.{own_fits, keyed_rows, filtered, alone_rights}
+use Rattle.keys.proofs.Catalogue.{keyed_for}
+use Rattle.rights.proofs.Held.{own_fits, filtered, alone_rights}
 use Rattle.rights.proofs.enter.Goals as goal
 
 pub minimal_alone-minimal-requires : goal.minimal_alone-minimal-requires
@@ -29,7 +30,7 @@ returns-in-Some c =
     (filtered t.cat.now t.table t.accepted t.known
     (MatchOption-at_some Unit (λ x. x < 2 ^ members_in t) _ c.in-Some.is c.requires.left_bound))
     c.own_rights-own.ensures
-    (keyed_rows _ _ c.members-n.ensures.is c.rows-end.ensures.is c.lay_all.ensures)
+    (keyed_for _ c.members-n.ensures.is c.rows-end.ensures.is c.lay_all.ensures)
     c.minimal_alone-minimal.ensures
     c.filter_alone-mask.ensures)
 
@@ -37,7 +38,7 @@ pub fill-held-requires : goal.fill-held-requires
 fill-held-requires c = (
   c.members-n.ensures.is,
   c.requires.work_bound_in_bounds,
-  keyed_rows _ _ c.members-n.ensures.is c.rows-end.ensures.is c.lay_all.ensures,
+  keyed_for _ c.members-n.ensures.is c.rows-end.ensures.is c.lay_all.ensures,
 )
 
 pub returns-in-None : goal.returns-in-None

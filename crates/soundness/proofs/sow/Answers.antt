@@ -1,13 +1,14 @@
 -- `soundness::sow` meets its contract.
-use Rattle.model.specs.Target.{view}
-use Rattle.soundness.proofs.Laws.{keyed_end}
+use Rattle.keys.proofs.Catalogue.{keyed_for}
+use Rattle.layout.specs.Targets.{view_of}
 use Rattle.soundness.proofs.sow.Goals as goal
 
+pub sow_among-requires : goal.sow_among-requires
+sow_among-requires c = ?
+
 pub returns : goal.returns
-returns c =
-    let v = view c.args.cat.now c.args.target in (
-      c.sow_among.ensures.0,
-      c.sow_among.ensures.1 v
-          (keyed_end v c.rows-end.ensures
-          c.lay_all.ensures),
-    )
+returns c = (
+  c.sow_among.ensures.0,
+  c.sow_among.ensures.1 (view_of c.args.target)
+      (keyed_for _ c.members.ensures.is c.rows.ensures.is c.lay_all.ensures),
+)

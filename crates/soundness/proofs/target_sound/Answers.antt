@@ -25,40 +25,32 @@ few cat target accepted bound = accepted_visible cat accepted target bound
 
 pub entries_fit-requires : goal.entries_fit-requires
 entries_fit-requires c =
-    let f = few c.args.cat.now c.args.target c.requires.accepted c.requires.target_bound in
-    omega (arith, f, c.visible-n.ensures)
+    let f = few c.args.target.cat.now c.args.target.table c.args.target.accepted c.args.target.known in
+    omega (arith, f, c.members-n.ensures.is)
 
 pub returns-then-not-entries_fit : goal.returns-then-not-entries_fit
 returns-then-not-entries_fit c =
-    says_no (not_fitting c.args.cat.now c.args.target _ _ _ c.visible-n.ensures
-    c.inherited-low.ensures (said_no c.entries_fit.ensures (ap not c.if-not-entries_fit.true)))
+    says_no (not_fitting c.args.target.cat.now c.args.target.table _ _ _ c.members-n.ensures.is
+    c.inherited-low.ensures.is (said_no c.entries_fit.ensures (ap not c.if-not-entries_fit.true)))
 
 pub sow-requires : goal.sow-requires
 sow-requires c =
-    let f = few c.args.cat.now c.args.target c.requires.accepted c.requires.target_bound in
+    let f = few c.args.target.cat.now c.args.target.table c.args.target.accepted c.args.target.known in
     let m = c.wide-m.ensures in
-    let n = c.visible-n.ensures in
-    record {
-      accepted = c.requires.accepted;
-      target_bound = c.requires.target_bound;
-      n_value = (n, blank_room _ m.word (m.few (omega (arith, f, n))));
-    }
+    let n = c.members-n.ensures.is in
+    blank_room _ m.word (m.few (omega (arith, f, n)))
 
 pub backed_plane-requires : goal.backed_plane-requires
 backed_plane-requires c =
-    let f = few c.args.cat.now c.args.target c.requires.accepted c.requires.target_bound in
-    let n = c.visible-n.ensures in
+    let f = few c.args.target.cat.now c.args.target.table c.args.target.accepted c.args.target.known in
+    let n = c.members-n.ensures.is in
     let m = c.wide-m.ensures in
-    record {
-      accepted = c.requires.accepted;
-      target_bound = omega (arith, c.requires.target_bound);
-      n_value = (n, m.all, blank_room _ m.word (m.few (omega (arith, f, n))));
-    }
+    (omega (arith, m.all, n), blank_room _ m.word (m.few (omega (arith, f, n))))
 
 pub close_lefts-requires : goal.close_lefts-requires
 close_lefts-requires c =
-    let f = few c.args.cat.now c.args.target c.requires.accepted c.requires.target_bound in
-    let n = c.visible-n.ensures in
+    let f = few c.args.target.cat.now c.args.target.table c.args.target.accepted c.args.target.known in
+    let n = c.members-n.ensures.is in
     let m = c.wide-m.ensures in (
       blank_room _ m.word (m.few (omega (arith, f, n))),
       lefts_narrow _ _ _ _ _ m.all (fits_narrow (said_yes c.entries_fit.ensures (ap not c.if-not-entries_fit.false))),
@@ -66,18 +58,18 @@ close_lefts-requires c =
 
 pub rights_sound-requires : goal.rights_sound-requires
 rights_sound-requires c =
-    let f = few c.args.cat.now c.args.target c.requires.accepted c.requires.target_bound in
-    let n = c.visible-n in
+    let f = few c.args.target.cat.now c.args.target.table c.args.target.accepted c.args.target.known in
+    let n = c.members-n in
     let m = c.wide-m.ensures in
-    let b : n.result ≤ column_bound = omega (arith, f, n.ensures) in
+    let b : n.result ≤ column_bound = n.ensures.few in
     let room = blank_room _ m.word (m.few b) in (
       m.all,
       b,
       omega (
         arith,
-        inherited_visible c.args.cat.now c.args.target,
-        n.ensures,
-        c.inherited-low.ensures,
+        inherited_visible c.args.target.cat.now c.args.target.table,
+        n.ensures.is,
+        c.inherited-low.ensures.is,
       ),
       room_kept c.sow.ensures.0 room,
       room_kept (search rules) room,
@@ -88,13 +80,13 @@ rights_sound-requires c =
 
 pub returns : goal.returns
 returns c =
-    let f = few c.args.cat.now c.args.target c.requires.accepted c.requires.target_bound in
-    let cat = c.args.cat.now in
-    let n = c.visible-n.ensures in
-    let low = c.inherited-low.ensures in
-    let by = fitting cat c.args.target _ _ _ n low c.requires.target_bound (omega (arith, f, n))
-    (omega (arith, inherited_visible cat c.args.target, n, low))
+    let f = few c.args.target.cat.now c.args.target.table c.args.target.accepted c.args.target.known in
+    let cat = c.args.target.cat.now in
+    let n = c.members-n.ensures.is in
+    let low = c.inherited-low.ensures.is in
+    let by = fitting cat c.args.target.table _ _ _ n low c.args.target.known (omega (arith, f, n))
+    (omega (arith, inherited_visible cat c.args.target.table, n, low))
     (said_yes c.entries_fit.ensures (ap not c.if-not-entries_fit.false)) in
     same_answer by.0 by.1
-    (c.rights_sound.ensures (view cat c.args.target) (sym n) (view_equivalence cat c.args.target)
+    (c.rights_sound.ensures (view cat c.args.target.table) (sym n) (view_equivalence cat c.args.target.table)
     c.sow.ensures.1 c.backed_plane.ensures)

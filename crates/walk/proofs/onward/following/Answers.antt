@@ -12,8 +12,8 @@ use Rattle.walk.specs.Walks.{After}
 use Rattle.walk.proofs.Walks.{good_target, follow_within, follow_target, follow_none}
 use Rattle.walk.proofs.onward.following.Goals as goal
 
-pub overflow_add-target : goal.overflow_add-target
-overflow_add-target c =
+pub overflow_add-table : goal.overflow_add-table
+overflow_add-table c =
     let s = c in
     omega (
       arith,
@@ -21,8 +21,8 @@ overflow_add-target c =
       accepted_tables s.args.cat.now s.requires.accepted,
     )
 
-pub returns-then-n-target : goal.returns-then-n-target
-returns-then-n-target c =
+pub returns-then-n-table : goal.returns-then-n-table
+returns-then-n-table c =
     let s = c in
     let e : next_of s.args.w.members (members_of s.args.w.left) ≡ None =
     sym c.next.ensures ∙ c.in-None.is in
@@ -37,8 +37,11 @@ returns-in-Some c =
     follow_within (ordinary s.args.cat.now) s.args.w s.args.work.now s.requires.good s.requires.pending_value
     c.in-Some.s s.requires.budget_nonzero e
 
-pub returns-else-n-target : goal.returns-else-n-target
-returns-else-n-target c =
+pub invariant_of-target : goal.invariant_of-target
+invariant_of-target c = record { accepted = c.requires.accepted; known = omega arith }
+
+pub returns-else-n-table : goal.returns-else-n-table
+returns-else-n-table c =
     let v = c in
     let s = v in
     let l = ordinary s.args.cat.now in
@@ -48,4 +51,4 @@ returns-else-n-target c =
     ∙ v.in-None.is in
     subst (λ (u : Walk). After l s.args.w u p.new.work) (sym c.entering.ensures)
     (follow_target l s.args.w s.args.work.now s.requires.good s.requires.pending_value _ _ _ _ p.new.work
-    s.requires.budget_nonzero e refl (omega arith) c.visible-members.ensures p.ensures (search rules))
+    s.requires.budget_nonzero e refl (omega arith) c.members.ensures.is p.ensures (search rules))

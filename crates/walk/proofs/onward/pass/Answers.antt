@@ -4,15 +4,17 @@ use Rattle.walk.proofs.Walks.{fresh_target, fresh_inside, fresh_passable, passes
 use borrow.Author.Rules.{rules}
 use Rattle.walk.proofs.onward.pass.Goals as goal
 
+pub invariant_of-target : goal.invariant_of-target
+invariant_of-target c = record {
+  accepted = c.requires.accepted;
+  known = fresh_target (ordinary c.args.cat.now) c.args.w c.args.work.now c.requires.fresh;
+}
+
 pub rights-mask-requires : goal.rights-mask-requires
 rights-mask-requires c =
-    let s = c in
-    let l = ordinary s.args.cat.now in
-    let f = s.requires.fresh in record {
-      accepted = s.requires.accepted;
-      target_bound = fresh_target l s.args.w s.args.work.now f;
-      n_value = (f.sound.members, fresh_inside l s.args.w s.args.work.now f);
-      ready = s.requires.ready;
+    let f = c.requires.fresh in record {
+      n_value = (f.sound.members, fresh_inside (ordinary c.args.cat.now) c.args.w c.args.work.now f);
+      ready = c.requires.ready;
     }
 
 pub passed-requires : goal.passed-requires

@@ -7,14 +7,15 @@ use Rattle.walk.proofs.Walks.{entered_fresh, entered_ready, entered_passes}
 use borrow.Author.Rules.{rules}
 use Rattle.walk.proofs.onward.pass_first.Goals as goal
 
+pub invariant_of-target : goal.invariant_of-target
+invariant_of-target c = record {
+  accepted = c.requires.accepted;
+  known = fresh_target (ordinary c.args.cat.now) c.args.w c.args.work.now c.requires.fresh;
+}
+
 pub alone-mask-requires : goal.alone-mask-requires
 alone-mask-requires c =
-    let s = c in
-    let l = ordinary s.args.cat.now in record {
-      accepted = s.requires.accepted;
-      target_bound = fresh_target l s.args.w s.args.work.now s.requires.fresh;
-      left_bound = (fresh_left l s.args.w s.args.work.now s.requires.fresh, s.requires.fresh.sound.enough);
-    }
+    (fresh_left (ordinary c.args.cat.now) c.args.w c.args.work.now c.requires.fresh, c.requires.fresh.sound.enough)
 
 pub passed-requires : goal.passed-requires
 passed-requires c =
@@ -31,12 +32,7 @@ returns-then-w-eq1 c =
     c.passed.result c.passed.ensures
 
 pub prepare-entered-requires : goal.prepare-entered-requires
-prepare-entered-requires c =
-    let s = c in record {
-      accepted = s.requires.accepted;
-      target_bound = fresh_target (ordinary s.args.cat.now) s.args.w s.args.work.now s.requires.fresh;
-      work_bound_in_bounds = s.requires.fresh.sound.enough;
-    }
+prepare-entered-requires c = c.requires.fresh.sound.enough
 
 pub rights-mask-requires : goal.rights-mask-requires
 rights-mask-requires c =
@@ -46,8 +42,6 @@ rights-mask-requires c =
     let p = c.prepare-entered in
     let e = entered_fresh l s.args.w s.args.work.now s.requires.fresh c.entering-v.ensures in
     let f = e s.args.work.now refl in record {
-      accepted = s.requires.accepted;
-      target_bound = fresh_target l v s.args.work.now f;
       n_value = (f.sound.members, fresh_inside l v s.args.work.now f);
       ready = entered_ready l s.args.w s.args.work.now s.requires.fresh c.entering-v.ensures p.ensures;
     }
