@@ -1,4 +1,5 @@
 -- Lists of sets in an order: what stands first, what stands after a set, and what stands at an index.
+use Rattle.std.specs.Prelude.{Some, None}
 use Prim.Native.Nat.{ℕ, zero, suc, ◌≤◌, ◌<◌}
 use mathlib.Core.Path.{◌≡◌, refl, sym, ap, ◌∙◌, subst}
 use mathlib.Core.Logic.{◌⊎◌, inl, inr, ⊎_elim}
@@ -10,7 +11,6 @@ use lib.ListN.{length, get_or}
 use Rattle.columns.specs.Set.{set_of}
 use Rattle.columns.specs.Order.{Precedes, Ordered, Once, first, after, nth}
 use Rattle.columns.specs.declared.ColumnSet.{ColumnSet}
-use Rattle.columns.specs.declared.SetOrNone.TheVariants.{Set, Nothing}
 use Rattle.columns.proofs.Test.{if_eq_yes, if_eq_no}
 
 -- the order of two sets
@@ -40,18 +40,18 @@ ordered_append (x ∷ xs) r ol or f = (
 )
 
 -- what stands first
-first_none : (l : List ℕ) → ((z : ℕ) → Memᴰ z l → ⊥) → first l ≡ Nothing
+first_none : (l : List ℕ) → ((z : ℕ) → Memᴰ z l → ⊥) → first l ≡ None
 unfolding first
 first_none [] f = refl
 first_none (z ∷ zs) f = absurd (f z (Memᴰ.head refl))
 
 first_least : (l : List ℕ) (y : ℕ) → Ordered l → Memᴰ y l
     → ((z : ℕ) → Memᴰ z l → Precedes z y → ⊥)
-    → first l ≡ Set (set_of y)
+    → first l ≡ Some (set_of y)
 unfolding first
 first_least [] y o m f = absurd (Memᴰ.not-nil m)
 first_least (z ∷ zs) y o m f =
-    ⊎_elim (λ (e : y ≡ z). ap (λ (i : ℕ). Set (set_of i)) (sym e))
+    ⊎_elim (λ (e : y ≡ z). ap (λ (i : ℕ). Some (set_of i)) (sym e))
     (λ (t : Memᴰ y zs). absurd (f z (Memᴰ.head refl) (o.0 y t)))
     (Memᴰ.cases_cons m)
 
@@ -64,7 +64,7 @@ after_there : (x y : ℕ) (ys : List ℕ) → (x ≡ y → ⊥) → after x (y �
 unfolding after
 after_there x y ys n = if_eq_no (first ys) n
 
-pub after_absent : (x : ℕ) (l : List ℕ) → (Memᴰ x l → ⊥) → after x l ≡ Nothing
+pub after_absent : (x : ℕ) (l : List ℕ) → (Memᴰ x l → ⊥) → after x l ≡ None
 unfolding after
 after_absent x [] f = refl
 after_absent x (y ∷ ys) f =
@@ -77,7 +77,7 @@ later x y ys m n = ⊎_elim (λ e. absurd (n e)) (λ t. t) (Memᴰ.cases_cons m)
 -- nothing stands after the last
 pub after_last : (l : List ℕ) (x : ℕ) → Ordered l → Memᴰ x l
     → ((z : ℕ) → Memᴰ z l → Precedes x z → ⊥)
-    → after x l ≡ Nothing
+    → after x l ≡ None
 after_last [] x o m f = absurd (Memᴰ.not-nil m)
 after_last (y ∷ ys) x o m f =
     elim (ℕ_discrete x y) [
@@ -88,7 +88,7 @@ after_last (y ∷ ys) x o m f =
 
 -- after x stands the y that x precedes with nothing between
 pub after_next : (l : List ℕ) (x y : ℕ) → Ordered l → Memᴰ x l → Memᴰ y l → Precedes x y
-    → ((z : ℕ) → Memᴰ z l → Precedes x z → Precedes z y → ⊥) → after x l ≡ Set (set_of y)
+    → ((z : ℕ) → Memᴰ z l → Precedes x z → Precedes z y → ⊥) → after x l ≡ Some (set_of y)
 after_next [] x y o mx my p f = absurd (Memᴰ.not-nil mx)
 after_next (w ∷ ws) x y o mx my p f =
     elim (ℕ_discrete x w) [
@@ -104,22 +104,22 @@ after_next (w ∷ ws) x y o mx my p f =
     ]
 
 -- what stands at an index
-pub nth_mem : (l : List ℕ) (i x : ℕ) → nth l i ≡ Set (set_of x) → Memᴰ x l
+pub nth_mem : (l : List ℕ) (i x : ℕ) → nth l i ≡ Some (set_of x) → Memᴰ x l
 unfolding nth
 nth_mem [] i x e = let z : ◌≡◌ {A = ℕ} 0 1 = cc in absurd (omega arith)
 nth_mem (y ∷ ys) zero x e = Memᴰ.head (set_inj x y (sym e))
   where
-    set_inj : (a b : ℕ) → Set (set_of a) ≡ Set (set_of b) → a ≡ b
+    set_inj : (a b : ℕ) → Some (set_of a) ≡ Some (set_of b) → a ≡ b
     set_inj a b q = let s : set_of a ≡ set_of b = cc in ap (λ (c : ColumnSet). c.bits) s
 nth_mem (y ∷ ys) (suc i) x e = Memᴰ.tail (nth_mem ys i x e)
 
-pub nth_get_d : (l : List ℕ) (i : ℕ) → i < length l → nth l i ≡ Set (set_of (get_or l i 0))
+pub nth_get_d : (l : List ℕ) (i : ℕ) → i < length l → nth l i ≡ Some (set_of (get_or l i 0))
 unfolding nth
 nth_get_d [] i h = absurd (omega arith)
 nth_get_d (y ∷ ys) zero h = refl
 nth_get_d (y ∷ ys) (suc i) h = nth_get_d ys i (omega arith)
 
-pub nth_past : (l : List ℕ) (i : ℕ) → length l ≤ i → nth l i ≡ Nothing
+pub nth_past : (l : List ℕ) (i : ℕ) → length l ≤ i → nth l i ≡ None
 unfolding nth
 nth_past [] i h = refl
 nth_past (y ∷ ys) zero h = absurd (omega arith)
@@ -142,7 +142,7 @@ unfolding first nth
 first_nth [] = refl
 first_nth (y ∷ ys) = refl
 
-pub after_nth : (l : List ℕ) (i x : ℕ) → Once l → nth l i ≡ Set (set_of x) → after x l ≡ nth l (suc i)
+pub after_nth : (l : List ℕ) (i x : ℕ) → Once l → nth l i ≡ Some (set_of x) → after x l ≡ nth l (suc i)
 unfolding nth
 after_nth [] i x o e = absurd (Memᴰ.not-nil (nth_mem [] i x e))
 after_nth (y ∷ ys) zero x o e =

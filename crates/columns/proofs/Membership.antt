@@ -1,4 +1,5 @@
 -- Laws of a set's members: each answer of a set is tied to them, and sets with the same members are alike.
+use Rattle.std.specs.Prelude.{Some, None}
 use Prim.Native.Nat.{ℕ, zero, suc, ◌+◌, ◌-◌, ◌/◌, ◌%◌, ◌^◌, ◌≤◌, ◌<◌}
 use mathlib.Core.Path.{◌≡◌, refl, sym, ap, ap₂, ◌∙◌}
 use mathlib.Core.Bool.{Bool, true, false, not, ◌&&◌, and-true}
@@ -19,7 +20,6 @@ use Rattle.columns.specs.Set.{bit, member_of, set_below, count_below, members_of
 use Rattle.columns.specs.Set.{size_of, without_of, within_of, set_of, full_of}
 use Rattle.columns.specs.Test.{pick, if_eq, if_lt}
 use Rattle.columns.specs.declared.ColumnSet.{ColumnSet}
-use Rattle.columns.specs.declared.SetOrNone.TheVariants.{Set, Nothing}
 use Rattle.columns.proofs.Bits.{bit_below, bit_past, bit_one, bit_full, bits_same, bit_power_le}
 use Rattle.columns.proofs.Bits.{bit_without_same, bit_without_other, without_none}
 use Rattle.columns.proofs.Bits.{member_bit, bit_member, within_members, members_within}
@@ -176,22 +176,22 @@ member_empty k = at (dec_lt k column_bound)
     at (yes h) = member_below 0 k h ∙ ap (λ (b : ℕ). eqb b 1) (bit_past 0 0 k (omega arith) (omega arith))
     at (no n) = member_past 0 k (omega arith)
 
-full_is : (n x : ℕ) → full_of n ≡ Set (set_of x) → (n ≤ column_bound) × (x ≡ 2 ^ n - 1)
+full_is : (n x : ℕ) → full_of n ≡ Some (set_of x) → (n ≤ column_bound) × (x ≡ 2 ^ n - 1)
 unfolding full_of
 full_is n x e = at (dec_lt column_bound n)
   where
     at : Dec (column_bound < n) → (n ≤ column_bound) × (x ≡ 2 ^ n - 1)
     at (yes h) =
-        let f : full_of n ≡ Nothing = if_le_no (Set (set_of (2 ^ n - 1))) h in
+        let f : full_of n ≡ None = if_le_no (Some (set_of (2 ^ n - 1))) h in
         let z : ◌≡◌ {A = ℕ} 0 1 = cc in
         absurd (omega arith)
     at (no m) =
         let l : n ≤ column_bound = omega arith in
-        let f : full_of n ≡ Set (set_of (2 ^ n - 1)) = if_le_yes Nothing l in
+        let f : full_of n ≡ Some (set_of (2 ^ n - 1)) = if_le_yes None l in
         let s : set_of x ≡ set_of (2 ^ n - 1) = cc in
         (l, ap (λ (c : ColumnSet). c.bits) s)
 
-pub member_full : (n x k : ℕ) → full_of n ≡ Set (set_of x) → member_of x k ≡ ltb k n
+pub member_full : (n x k : ℕ) → full_of n ≡ Some (set_of x) → member_of x k ≡ ltb k n
 member_full n x k e = let f = full_is n x e in ap (λ (y : ℕ). member_of y k) f.1 ∙ at f.0 (dec_lt k n)
   where
     at : n ≤ column_bound → Dec (k < n) → member_of (2 ^ n - 1) k ≡ ltb k n
@@ -201,7 +201,7 @@ member_full n x k e = let f = full_is n x e in ap (λ (y : ℕ). member_of y k) 
         member_same (2 ^ n - 1) 0 k (λ h. b ∙ sym (bit_past 0 0 k (omega arith) (omega arith)))
         ∙ member_empty k ∙ sym (le-ltb k n (omega arith))
 
-pub size_full : (n x : ℕ) → full_of n ≡ Set (set_of x) → member_count x ≡ n
+pub size_full : (n x : ℕ) → full_of n ≡ Some (set_of x) → member_count x ≡ n
 size_full n x e =
     let f = full_is n x e in
     ap member_count f.1 ∙ size_own n (2 ^ n - 1) f.0 (ones_lt n) ∙ ones-ones n
@@ -240,14 +240,14 @@ pub bit_of_member : (x k : ℕ) → member_of x k ≡ true → bit (members_of x
 bit_of_member x k m = let p = member_bit x k m in bit_members x k p.0 ∙ p.1
 
 -- next: 'none' after the full set, and for a set with a member at or above n
-pub next_full : (n x : ℕ) → full_of n ≡ Set (set_of x) → next_of n (members_of x) ≡ Nothing
+pub next_full : (n x : ℕ) → full_of n ≡ Some (set_of x) → next_of n (members_of x) ≡ None
 next_full n x e =
     let f = full_is n x e in
     let s : size_of x ≡ n = ap size_of f.1 ∙ ones-ones n in
     ap (next_of n) (members_own n x f.0 (omega (arith, ones_lt n)))
     ∙ next_of_last n x f.0 (omega (arith, ones_lt n)) (λ z h l t. omega arith) (omega arith)
 
-pub next_above : (n x k : ℕ) → member_of x k ≡ true → n ≤ k → next_of n (members_of x) ≡ Nothing
+pub next_above : (n x k : ℕ) → member_of x k ≡ true → n ≤ k → next_of n (members_of x) ≡ None
 next_above n x k m l =
     next_absent n (members_of x) (omega (arith, (member_bit x k m).0))
     (omega (arith, bit_power_le (members_of x) k (bit_of_member x k m), pow_mono l))

@@ -1,6 +1,7 @@
 -- The next set in listing order, as arithmetic. A number that is not 0 is, from above, some bits, a 0, a run of ones
 -- and a run of zeros. The next number of its size has the run's highest one moved up into the 0, and its other ones
 -- at the end.
+use Rattle.std.specs.Prelude.{Some, None}
 use Prim.Native.Nat.{ℕ, zero, suc, ◌+◌, ◌-◌, ◌*◌, ◌/◌, ◌%◌, ◌^◌, ◌≤◌, ◌<◌}
 use mathlib.Core.Path.{◌≡◌, refl, sym, ap, ◌∙◌, subst}
 use mathlib.Core.Logic.{inl, inr, ⊎_elim}
@@ -13,7 +14,6 @@ use lib.Pow.{pow_pos, pow_mono, pow-add, ones_lt}
 use Rattle.columns.specs.Bound.{column_bound}
 use Rattle.columns.specs.Set.{size_of, set_of}
 use Rattle.columns.specs.Order.{Precedes, in_order, next_of}
-use Rattle.columns.specs.declared.SetOrNone.TheVariants.{Set, Nothing}
 use Rattle.columns.proofs.Test.{if_le_yes, if_le_no}
 use Rattle.columns.proofs.Size.{least_of_size, size_pos, size_odd}
 use Rattle.columns.proofs.Lists.{after_absent, after_last, after_next}
@@ -193,21 +193,21 @@ pub last_moved : (n x r : ℕ) → Moved x r → 2 ^ n ≤ r → LastOfSize n x
 last_moved n x r w h z l g s = omega (arith, w.least z g s)
 
 -- the next set, case by case
-pub next_over : (n x : ℕ) → column_bound < n → next_of n x ≡ Nothing
+pub next_over : (n x : ℕ) → column_bound < n → next_of n x ≡ None
 unfolding next_of
 next_over n x b = if_le_no _ b
 
-pub next_absent : (n x : ℕ) → n ≤ column_bound → 2 ^ n ≤ x → next_of n x ≡ Nothing
+pub next_absent : (n x : ℕ) → n ≤ column_bound → 2 ^ n ≤ x → next_of n x ≡ None
 unfolding next_of
-next_absent n x b h = if_le_yes Nothing b ∙ after_absent x (in_order n) (λ m. omega (arith, mem_in_order n x m))
+next_absent n x b h = if_le_yes None b ∙ after_absent x (in_order n) (λ m. omega (arith, mem_in_order n x m))
 
 pub next_of_size : (n x r : ℕ) → n ≤ column_bound → x < r → Moved x r → r < 2 ^ n
-    → next_of n x ≡ Set (set_of (r + (2 ^ (size_of x - size_of r) - 1)))
+    → next_of n x ≡ Some (set_of (r + (2 ^ (size_of x - size_of r) - 1)))
 unfolding next_of
 next_of_size n x r b g w h =
     let y = r + (2 ^ (size_of x - size_of r) - 1) in
     let u : y < 2 ^ n = omega (arith, w.fits n h, pow_pos (size_of x - size_of r)) in
-    if_le_yes Nothing b
+    if_le_yes None b
     ∙ after_next (in_order n) x y (ordered_in_order n) (in_order_mem n x (omega arith)) (in_order_mem n y u)
     (inr (sym w.same, omega arith))
     (λ z m. between z)
@@ -219,12 +219,12 @@ next_of_size n x r b g w h =
     between z (inr p) (inr o) = omega (arith, w.least z p.1 (sym p.0))
 
 pub next_of_next_size : (n x : ℕ) → n ≤ column_bound → x < 2 ^ n → LastOfSize n x → size_of x < n
-    → next_of n x ≡ Set (set_of (2 ^ suc (size_of x) - 1))
+    → next_of n x ≡ Some (set_of (2 ^ suc (size_of x) - 1))
 unfolding next_of
 next_of_next_size n x b h last l =
     let y = 2 ^ suc (size_of x) - 1 in
     let s : size_of y ≡ suc (size_of x) = ones-ones (suc (size_of x)) in
-    if_le_yes Nothing b
+    if_le_yes None b
     ∙ after_next (in_order n) x y (ordered_in_order n) (in_order_mem n x h)
     (in_order_mem n y (omega (arith, pow_mono l, pow_pos (suc (size_of x))))) (inl (omega arith))
     (λ z m. between z (mem_in_order n z m) s)
@@ -239,10 +239,10 @@ next_of_next_size n x b h last l =
     between z u s (inr p) o = last z u p.1 (sym p.0)
 
 pub next_of_last : (n x : ℕ) → n ≤ column_bound → x < 2 ^ n → LastOfSize n x → n ≤ size_of x
-    → next_of n x ≡ Nothing
+    → next_of n x ≡ None
 unfolding next_of
 next_of_last n x b h last l =
-    if_le_yes Nothing b
+    if_le_yes None b
     ∙ after_last (in_order n) x (ordered_in_order n) (in_order_mem n x h)
     (λ z m p.
     ⊎_elim (λ q. omega (arith, ones-le n z (mem_in_order n z m)))

@@ -1,5 +1,6 @@
 -- The listing order of the sets of n columns, for every n: its members, that it is sorted, and what a walk along it
 -- needs.
+use Rattle.std.specs.Prelude.{Some, None}
 use Prim.Native.Nat.{ℕ, zero, suc, ◌+◌, ◌^◌, ◌≤◌, ◌<◌}
 use mathlib.Core.Path.{◌≡◌, sym, ap, ◌∙◌, subst}
 use mathlib.Core.Bool.{true, false}
@@ -16,7 +17,6 @@ use Rattle.columns.specs.Bound.{column_bound}
 use Rattle.columns.specs.Set.{size_of, set_of}
 use Rattle.columns.specs.Order.{Precedes, precedes_of, Ordered, Once, of_size_from, of_size, by_size_from, in_order}
 use Rattle.columns.specs.Order.{nth, next_of, at_of}
-use Rattle.columns.specs.declared.SetOrNone.TheVariants.{Set, Nothing}
 use Rattle.columns.proofs.Test.{if_eq_yes, if_eq_no, if_lt_yes, if_lt_no, if_le_yes}
 use Rattle.columns.proofs.Pascal.{from_yes, from_no, length_in_order}
 use Rattle.columns.proofs.Lists.{ordered_once, ordered_append, nth_get_d, nth_past, get_d_mem, after_nth}
@@ -143,31 +143,31 @@ drop_in_order n i h = drop-cons (in_order n) i 0 (rw (length_in_order n) h)
 pub get_d_in_order_lt : (n i : ℕ) → i < 2 ^ n → get_or (in_order n) i 0 < 2 ^ n
 get_d_in_order_lt n i h = mem_in_order n (get_or (in_order n) i 0) (get_d_mem (in_order n) i (rw (length_in_order n) h))
 
-pub nth_in_order : (n i : ℕ) → i < 2 ^ n → nth (in_order n) i ≡ Set (set_of (get_or (in_order n) i 0))
+pub nth_in_order : (n i : ℕ) → i < 2 ^ n → nth (in_order n) i ≡ Some (set_of (get_or (in_order n) i 0))
 nth_in_order n i h = nth_get_d (in_order n) i (rw (length_in_order n) h)
 
 -- the next set is the one that stands after
-pub next_after : (n i x : ℕ) → n ≤ column_bound → nth (in_order n) i ≡ Set (set_of x)
+pub next_after : (n i x : ℕ) → n ≤ column_bound → nth (in_order n) i ≡ Some (set_of x)
     → next_of n x ≡ nth (in_order n) (suc i)
 unfolding next_of
-next_after n i x b e = if_le_yes Nothing b ∙ after_nth (in_order n) i x (once_in_order n) e
+next_after n i x b e = if_le_yes None b ∙ after_nth (in_order n) i x (once_in_order n) e
 
-pub nth_in_order_past : (n i : ℕ) → 2 ^ n ≤ i → nth (in_order n) i ≡ Nothing
+pub nth_in_order_past : (n i : ℕ) → 2 ^ n ≤ i → nth (in_order n) i ≡ None
 nth_in_order_past n i h = nth_past (in_order n) i (rw (length_in_order n) h)
 
 pub next_at : (n i : ℕ) → n ≤ column_bound → suc i < 2 ^ n
-    → next_of n (get_or (in_order n) i 0) ≡ Set (set_of (get_or (in_order n) (suc i) 0))
+    → next_of n (get_or (in_order n) i 0) ≡ Some (set_of (get_or (in_order n) (suc i) 0))
 next_at n i b h =
     next_after n i (get_or (in_order n) i 0) b (nth_in_order n i (omega arith)) ∙ nth_in_order n (suc i) h
 
-pub next_at_last : (n i : ℕ) → n ≤ column_bound → suc i ≡ 2 ^ n → next_of n (get_or (in_order n) i 0) ≡ Nothing
+pub next_at_last : (n i : ℕ) → n ≤ column_bound → suc i ≡ 2 ^ n → next_of n (get_or (in_order n) i 0) ≡ None
 next_at_last n i b e =
     next_after n i (get_or (in_order n) i 0) b (nth_in_order n i (omega arith)) ∙ nth_in_order_past n (suc i) (omega arith)
 
 -- the set at an index
-pub at_inside : (n i : ℕ) → n ≤ column_bound → i < 2 ^ n → at_of n i ≡ Set (set_of (get_or (in_order n) i 0))
+pub at_inside : (n i : ℕ) → n ≤ column_bound → i < 2 ^ n → at_of n i ≡ Some (set_of (get_or (in_order n) i 0))
 unfolding at_of
-at_inside n i b h = if_le_yes Nothing b ∙ nth_in_order n i h
+at_inside n i b h = if_le_yes None b ∙ nth_in_order n i h
 
 -- K10: in the order of 3 columns, left 4 precedes left 3
 pub four_precedes_three : Precedes 4 3

@@ -1,4 +1,5 @@
 -- The set at an index: in the sets of one size from the last column down, and in the whole order by passing sizes.
+use Rattle.std.specs.Prelude.{Some, None}
 use Prim.Native.Nat.{ℕ, zero, suc, ◌+◌, ◌-◌, ◌^◌, ◌≤◌, ◌<◌}
 use mathlib.Core.Path.{◌≡◌, refl, sym, ap, ◌∙◌, subst, subst₂}
 use mathlib.Core.List.{List, [], ◌∷◌, ◌++◌, map}
@@ -10,7 +11,6 @@ use lib.ListN.{length, get_or, get_or-append}
 use lib.Seq.{get_or-append-add}
 use Rattle.columns.specs.Set.{set_of}
 use Rattle.columns.specs.Order.{of_size, by_size_from, in_order, nth}
-use Rattle.columns.specs.declared.SetOrNone.TheVariants.{Set, Nothing}
 use Rattle.columns.proofs.Pascal.{of_size_suc_suc, of_size_suc_zero, length_suc_suc, length_none}
 use Rattle.columns.proofs.Pascal.{length_over}
 use Rattle.columns.proofs.Lists.{nth_get_d, nth_append_left, get_d_mem}
@@ -162,12 +162,12 @@ passed_more n index k left c h e l p =
     (pass n index k left h (omega arith) p)
 
 pub passed_found : (n index k left : ℕ) → k ≤ n → left < length (of_size n k) → SizesPassed n index k left
-    → nth (in_order n) index ≡ Set (set_of (get_or (of_size n k) left 0))
+    → nth (in_order n) index ≡ Some (set_of (get_or (of_size n k) left 0))
 passed_found n index k left h l p =
     rest n index k left h p ∙ nth_append_left (of_size n k) (by_size_from n (n - k) (suc k)) left l
     ∙ nth_get_d (of_size n k) left l
 
-pub passed_all : (n index k left : ℕ) → n < k → SizesPassed n index k left → nth (in_order n) index ≡ Nothing
+pub passed_all : (n index k left : ℕ) → n < k → SizesPassed n index k left → nth (in_order n) index ≡ None
 unfolding by_size_from nth
 passed_all n index k left h p =
     let e : suc n - k ≡ 0 = omega arith in

@@ -1,11 +1,10 @@
 -- The listing order of the sets of n columns ("Order and places"): by size, then by their number.
-use Rattle.std.specs.Prelude.{ℕ, zero, suc, ◌+◌, ◌^◌, ◌<◌, ◌≡◌, Bool, true, false, ◌⊎◌, ltb}
+use Rattle.std.specs.Prelude.{ℕ, zero, suc, ◌+◌, ◌^◌, ◌<◌, ◌≡◌, Bool, true, false, ◌⊎◌, ltb, Option, Some, None}
 use mathlib.Core.List.{List, [], ◌∷◌, ◌++◌, Memᴰ}
 use Rattle.columns.specs.Bound.{column_bound}
 use Rattle.columns.specs.Test.{if_eq, if_lt, if_le}
 use Rattle.columns.specs.Set.{size_of, set_of}
-use Rattle.columns.specs.declared.SetOrNone.{SetOrNone}
-use Rattle.columns.specs.declared.SetOrNone.TheVariants.{Set, Nothing}
+use Rattle.columns.specs.declared.ColumnSet.{ColumnSet}
 
 -- x stands before y: it is smaller, or as large and its number is below
 abbrev pub Precedes : ℕ → ℕ → Type 0
@@ -44,24 +43,24 @@ unfoldable pub in_order : ℕ → List ℕ
 in_order n = by_size_from n (suc n) 0
 
 -- what stands first in a list, and what stands right after x in it
-unfoldable pub first : List ℕ → SetOrNone
-first [] = Nothing
-first (y ∷ ys) = Set (set_of y)
+unfoldable pub first : List ℕ → Option ColumnSet
+first [] = None
+first (y ∷ ys) = Some (set_of y)
 
-unfoldable pub after : ℕ → List ℕ → SetOrNone
-after x [] = Nothing
+unfoldable pub after : ℕ → List ℕ → Option ColumnSet
+after x [] = None
 after x (y ∷ ys) = if_eq x y (first ys) (after x ys)
 
 -- the next set in listing order: 'none' after the full set, for a set with a member at or above n, and for n over
 -- the bound
-unfoldable pub next_of : ℕ → ℕ → SetOrNone
-next_of n x = if_le n column_bound (after x (in_order n)) Nothing
+unfoldable pub next_of : ℕ → ℕ → Option ColumnSet
+next_of n x = if_le n column_bound (after x (in_order n)) None
 
 -- the set at an index of the order: 'none' at or past 2^n, and for n over the bound
-unfoldable pub nth : List ℕ → ℕ → SetOrNone
-nth [] i = Nothing
-nth (y ∷ ys) zero = Set (set_of y)
+unfoldable pub nth : List ℕ → ℕ → Option ColumnSet
+nth [] i = None
+nth (y ∷ ys) zero = Some (set_of y)
 nth (y ∷ ys) (suc i) = nth ys i
 
-unfoldable pub at_of : ℕ → ℕ → SetOrNone
-at_of n i = if_le n column_bound (nth (in_order n) i) Nothing
+unfoldable pub at_of : ℕ → ℕ → Option ColumnSet
+at_of n i = if_le n column_bound (nth (in_order n) i) None

@@ -2,13 +2,12 @@
 -- member ("Order and places"). So several numbers have the same members, and what a set answers is told by its
 -- members alone.
 use Rattle.std.specs.Prelude.{ℕ, zero, suc, ◌+◌, ◌-◌, ◌*◌, ◌/◌, ◌%◌, ◌^◌, Bool, not, ◌&&◌, ltb, eqb}
+use Rattle.std.specs.Prelude.{Option, Some, None}
 use Rattle.std.specs.Int.Count.{ones}
 use Rattle.std.specs.Int.Bits.{bit_and}
 use Rattle.columns.specs.Bound.{column_bound}
 use Rattle.columns.specs.Test.{if_le, pick}
 use Rattle.columns.specs.declared.ColumnSet.{ColumnSet}
-use Rattle.columns.specs.declared.SetOrNone.{SetOrNone}
-use Rattle.columns.specs.declared.SetOrNone.TheVariants.{Set, Nothing}
 
 -- bit k of the number x: 1 or 0
 abbrev pub bit : ℕ → ℕ → ℕ
@@ -55,5 +54,5 @@ abbrev pub set_of : ℕ → ColumnSet
 set_of x = record { bits = x }
 
 -- the full set of n columns, 'none' for n over the bound
-unfoldable pub full_of : ℕ → SetOrNone
-full_of n = if_le n column_bound (Set (set_of (2 ^ n - 1))) Nothing
+unfoldable pub full_of : ℕ → Option ColumnSet
+full_of n = if_le n column_bound (Some (set_of (2 ^ n - 1))) None

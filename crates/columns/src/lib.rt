@@ -26,13 +26,6 @@ pub struct ColumnSet {
     pub bits: u32,
 }
 
-// A set, or 'none'.
-#[derive(Clone, Copy)]
-pub enum SetOrNone {
-    Set(ColumnSet),
-    Nothing,
-}
-
 // Bit k of x.
 fn bit(x: u32, k: u32) -> u32
     requires { k < 32 }
@@ -60,13 +53,13 @@ impl ColumnSet {
     }
 
     // The full set of n columns; 'none' for n over the bound.
-    pub fn full(n: u32) -> SetOrNone
+    pub fn full(n: u32) -> Option<ColumnSet>
         ensures { result ≡ full_of n }
     {
         if COLUMN_BOUND < n {
-            return SetOrNone::Nothing;
+            return None;
         }
-        SetOrNone::Set(ColumnSet { bits: power(n) - 1 })
+        Some(ColumnSet { bits: power(n) - 1 })
     }
 
     // Is column k a member? A column at or above the bound is none.
@@ -119,71 +112,61 @@ impl ColumnSet {
         let b = other.bits;
         let x = members(a);
         let y = members(b);
-        let s = u32::count_ones(x);
-        let t = u32::count_ones(y);
-        if s < t {
-            return true;
-        }
-        if s != t {
-            return false;
-        }
-        x < y
+        (u32::count_ones(x), x) < (u32::count_ones(y), y)
     }
 
     // The next set of n columns in listing order: 'none' after the full set, for a set with a member at or above n,
     // and for n over the bound. The highest one of the lowest run of ones moves up by a bit, and the others of that
     // run go down to the end. Where no bit is free above, the next size begins.
-    pub fn next(self, n: u32) -> SetOrNone
+    pub fn next(self, n: u32) -> Option<ColumnSet>
         ensures { result ≡ next_of n (members_of self.bits) }
     {
         if COLUMN_BOUND < n {
-            return SetOrNone::Nothing;
+            return None;
         }
         let bits = self.bits;
         let x = members(bits);
         let end = power(n);
         if end <= x {
-            return SetOrNone::Nothing;
+            return None;
         }
         let s = u32::count_ones(x);
         if 0 < x {
             let r = x + power(u32::trailing_zeros(x));
             if r < end {
                 let low = power(s - u32::count_ones(r)) - 1;
-                return SetOrNone::Set(ColumnSet { bits: r + low });
+                return Some(ColumnSet { bits: r + low });
             }
         }
         if s < n {
-            return SetOrNone::Set(ColumnSet {
+            return Some(ColumnSet {
                 bits: power(s + 1) - 1,
             });
         }
-        SetOrNone::Nothing
+        None
     }
 
     // The set at an index of the listing order of n columns: 'none' at or past 2^n, and for n over the bound.
     // It passes whole sizes, then looks inside one.
-    pub fn at(n: u32, index: u32) -> SetOrNone
+    pub fn at(n: u32, index: u32) -> Option<ColumnSet>
         ensures { result ≡ at_of n index }
     {
         if COLUMN_BOUND < n {
-            return SetOrNone::Nothing;
+            return None;
         }
         let mut rows = [[0; SIZES]; SIZES];
         count_sets(&mut rows, n);
-        let mut k = 0;
         let mut left = index;
-        while k <= n {
+        for k in 0..=n {
             let c = rows[n as usize][k as usize];
             if left < c {
-                return SetOrNone::Set(ColumnSet {
+                return Some(ColumnSet {
                     bits: of_size_at(&rows, n, k, left),
                 });
             }
             left -= c;
-            k += 1;
         }
-        SetOrNone::Nothing
+        None
     }
 }
 
@@ -193,12 +176,10 @@ fn of_size_at(rows: &[[u32; SIZES]; SIZES], n: u32, k: u32, index: u32) -> u32
     requires { (n ≤ column_bound) × CountsUpTo n rows.now × (index < length (of_size n k)) }
     ensures { result ≡ get_or (of_size n k) index 0 }
 {
-    let mut m = n;
     let mut size = k;
     let mut left = index;
     let mut set = 0;
-    while 0 < m {
-        m -= 1;
+    for m in (0..n).rev() {
         let c = rows[m as usize][size as usize];
         if c <= left {
             left -= c;
@@ -216,12 +197,9 @@ fn count_sets(rows: &mut [[u32; SIZES]; SIZES], n: u32)
 {
     let none = of_no_column();
     rows[0] = none;
-    let mut i = 0;
-    while i < n {
+    for i in 0..n {
         let row = rows[i as usize];
-        let next = with_a_column(row, i);
-        i += 1;
-        rows[i as usize] = next;
+        rows[i as usize + 1] = with_a_column(row, i);
     }
 }
 
@@ -241,10 +219,8 @@ fn with_a_column(before: [u32; SIZES], n: u32) -> [u32; SIZES]
     ensures { Counts (suc n) result }
 {
     let mut row = before;
-    let mut k = SIZES - 1;
-    while 0 < k {
-        row[k] = row[k] + row[k - 1];
-        k -= 1;
+    for k in (1..SIZES).rev() {
+        row[k] += row[k - 1];
     }
     row
 }

@@ -1,14 +1,14 @@
 -- Numbers of 2 and 4 bytes: what is written is read back, wherever it stands; what is read, written, is the bytes that
 -- stand there.
-use Prim.Native.Nat.{ℕ, zero, suc, ◌+◌, ◌*◌, ◌/◌, ◌%◌, ◌≤◌, ◌<◌}
-use mathlib.Core.Path.{◌≡◌, refl, sym, ap, ◌∙◌}
+use Prim.Native.Nat.{ℕ, zero, suc, ◌+◌, ◌≤◌, ◌<◌}
+use mathlib.Core.Path.{◌≡◌, refl, sym}
 use mathlib.Core.List.{List, [], ◌∷◌, ◌++◌}
-use native.Mathlib.Nat.{add_assoc, div-div-eq-div-mul, div-add-mod', mod-eq_of_lt}
+use native.Mathlib.Nat.{add_assoc}
 use native.Mathlib.Numerals.{towards_suc}
 use native.Mathlib.Omega.{arith}
 use lib.ListN.{length, drop}
-use lib.Arith.{digits_div, digits_mod}
 use lib.Seq.{get_or-append-add}
+use Rattle.std.proofs.lemmas.Nat.{le_bytes_2, le_bytes_4, from_le_bytes-to_le_bytes_4}
 use Rattle.model.specs.Bytes.{byte_at, u16_at, u32_at, bytes2, bytes4, Bytes}
 
 -- a number behind a front is the number without it
@@ -23,12 +23,6 @@ pub u32_after : (xs ys : List ℕ) (i : ℕ) → u32_at (xs ++ ys) (length xs + 
 unfolding u32_at
 u32_after xs ys i = simp (add_assoc, get_or-append-add)
 
--- a number below 256^4 is the sum of its digits
-four_digits : (n r a s b t c : ℕ) → n < 4294967296 → a * 256 + r ≡ n → b * 256 + s ≡ a → c * 256 + t ≡ b
-    → r + 256 * s + 65536 * t + 16777216 * (c % 256) ≡ n
-four_digits n r a s b t c h p q w =
-    let l : c < 256 = omega arith in let e = mod-eq_of_lt l in omega arith
-
 -- what is written is read back
 pub u16_of_bytes2 : (n : ℕ) (ys : List ℕ) → n < 65536 → u16_at (bytes2 n ++ ys) 0 ≡ n
 unfolding u16_at bytes2
@@ -36,10 +30,7 @@ u16_of_bytes2 n ys h = omega arith
 
 pub u32_of_bytes4 : (n : ℕ) (ys : List ℕ) → n < 4294967296 → u32_at (bytes4 n ++ ys) 0 ≡ n
 unfolding u32_at bytes4
-u32_of_bytes4 n ys h =
-    rw (← div-div-eq-div-mul n 256 256, ← div-div-eq-div-mul n 65536 256, ← div-div-eq-div-mul n 256 256)
-    (four_digits n (n % 256) (n / 256) (n / 256 % 256) (n / 256 / 256) (n / 256 / 256 % 256) (n / 256 / 256 / 256) h
-    (div-add-mod' n 256) (div-add-mod' (n / 256) 256) (div-add-mod' (n / 256 / 256) 256))
+u32_of_bytes4 n ys h = omega (arith, from_le_bytes-to_le_bytes_4 n h)
 
 -- what is read, written
 pub byte_small : (b : List ℕ) → Bytes b → (i : ℕ) → byte_at b i < 256
@@ -47,47 +38,21 @@ byte_small [] s i = omega arith
 byte_small (x ∷ xs) s zero = s.0
 byte_small (x ∷ xs) s (suc i) = byte_small xs s.1 i
 
--- the lowest digit of a number, and what is above it
-low : (x y : ℕ) → x < 256 → (x + 256 * y) % 256 ≡ x
-low x y h = ap (λ (n : ℕ). n % 256) (sym (omega arith)) ∙ digits_mod y h
-
-above : (x y : ℕ) → x < 256 → (x + 256 * y) / 256 ≡ y
-above x y h = ap (λ (n : ℕ). n / 256) (sym (omega arith)) ∙ digits_div y h
-
-bytes2_sum : (x y : ℕ) → x < 256 → y < 256 → bytes2 (x + 256 * y) ≡ x ∷ y ∷ []
-unfolding bytes2
-bytes2_sum x y hx hy = simp (low x y hx, above x y hx, mod-eq_of_lt hy)
-
-bytes4_sum : (x y z w : ℕ) → x < 256 → y < 256 → z < 256 → w < 256
-    → bytes4 (x + 256 * (y + 256 * (z + 256 * w))) ≡ x ∷ y ∷ z ∷ w ∷ []
-unfolding bytes4
-bytes4_sum x y z w hx hy hz hw =
-    rw (
-      ← div-div-eq-div-mul (x + 256 * (y + 256 * (z + 256 * w))) 256 256,
-      ← div-div-eq-div-mul (x + 256 * (y + 256 * (z + 256 * w))) 65536 256,
-      ← div-div-eq-div-mul (x + 256 * (y + 256 * (z + 256 * w))) 256 256,
-    )
-    (simp (
-      low x (y + 256 * (z + 256 * w)) hx,
-      above x (y + 256 * (z + 256 * w)) hx,
-      low y (z + 256 * w) hy,
-      above y (z + 256 * w) hy,
-      low z w hz,
-      above z w hz,
-      mod-eq_of_lt hw,
-    ))
-
 pub bytes2_of_u16 : (b : List ℕ) (i : ℕ) → Bytes b → bytes2 (u16_at b i) ≡ byte_at b i ∷ byte_at b (i + 1) ∷ []
-unfolding u16_at
-bytes2_of_u16 b i s = bytes2_sum _ _ (byte_small b s i) (byte_small b s (i + 1))
+unfolding u16_at bytes2
+bytes2_of_u16 b i s =
+    let read = byte_at b i ∷ byte_at b (i + 1) ∷ [] in
+    let small : Bytes read = (byte_small b s i, (byte_small b s (i + 1), tt)) in
+    le_bytes_2 read _ refl (byte_small read small) (omega arith)
 
 pub bytes4_of_u32 : (b : List ℕ) (i : ℕ) → Bytes b
     → bytes4 (u32_at b i) ≡ byte_at b i ∷ byte_at b (i + 1) ∷ byte_at b (i + 2) ∷ byte_at b (i + 3) ∷ []
-unfolding u32_at
+unfolding u32_at bytes4
 bytes4_of_u32 b i s =
-    ap bytes4 (omega arith)
-    ∙ bytes4_sum (byte_at b i) (byte_at b (i + 1)) (byte_at b (i + 2)) (byte_at b (i + 3))
-    (byte_small b s i) (byte_small b s (i + 1)) (byte_small b s (i + 2)) (byte_small b s (i + 3))
+    let read = byte_at b i ∷ byte_at b (i + 1) ∷ byte_at b (i + 2) ∷ byte_at b (i + 3) ∷ [] in
+    let at = byte_small b s in
+    let small : Bytes read = (at i, (at (i + 1), (at (i + 2), (at (i + 3), tt)))) in
+    le_bytes_4 read _ refl (byte_small read small) (omega arith)
 
 -- the bytes from i on are four and the rest
 pub drop_four : (b : List ℕ) (i : ℕ) → i + 4 ≤ length b

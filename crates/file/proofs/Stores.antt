@@ -1,25 +1,15 @@
--- Stores of 2 and 4 bytes, one after the other, are the store of a number's bytes.
-use Prim.Native.Nat.{ℕ, ◌+◌, ◌/◌, ◌%◌}
-use mathlib.Core.Path.{◌≡◌, ◌∙◌}
-use mathlib.Core.List.{List, [], ◌∷◌}
-use native.Mathlib.Numerals.{towards_suc}
-use lib.ListN.{set}
-use lib.Seq.{sets}
-use Rattle.model.specs.Bytes.{bytes2, bytes4}
+-- Writing a part of a slice is storing its numbers one after the other.
+use Prim.Native.Nat.{ℕ, ◌+◌, ◌-◌, ◌≤◌}
+use mathlib.Core.Path.{◌≡◌, refl, sym, ap, ◌∙◌}
+use mathlib.Core.List.{List, ◌++◌}
+use native.Mathlib.Omega.{arith}
+use borrow.Rule.Slice.PartMut.{put_mid}
+use lib.ListN.{length, take, drop}
+use lib.Seq.{sets, sets-eq, take-length}
+use Rattle.std.proofs.lemmas.Slice.{put_mid-paste}
 
-two_stores : (l : List ℕ) (i a b : ℕ) → set (set l i a) (i + 1) b ≡ sets l i (a ∷ b ∷ [])
-two_stores l i a b = simp towards_suc
-
-pub stores_two : (l : List ℕ) (i x : ℕ) {a b : ℕ} → a ≡ x % 256 → b ≡ x / 256 % 256
-    → set (set l i a) (i + 1) b ≡ sets l i (bytes2 x)
-unfolding bytes2
-stores_two l i x {a} {b} p q = two_stores l i a b ∙ cc
-
-four_stores : (l : List ℕ) (i a b c d : ℕ)
-    → set (set (set (set l i a) (i + 1) b) (i + 2) c) (i + 3) d ≡ sets l i (a ∷ b ∷ c ∷ d ∷ [])
-four_stores l i a b c d = simp towards_suc
-
-pub stores_four : (l : List ℕ) (i x : ℕ) {a b c d : ℕ} → a ≡ x % 256 → b ≡ x / 256 % 256 → c ≡ x / 65536 % 256
-    → d ≡ x / 16777216 % 256 → set (set (set (set l i a) (i + 1) b) (i + 2) c) (i + 3) d ≡ sets l i (bytes4 x)
-unfolding bytes4
-stores_four l i x {a} {b} {c} {d} p q r s = four_stores l i a b c d ∙ cc
+pub stores : (l : List ℕ) (i e : ℕ) (vs : List ℕ) {ys : List ℕ} → ys ≡ vs → e ≡ i + length vs → e ≤ length l
+    → put_mid i (e - i) l ys ≡ sets l i vs
+stores l i e vs {ys} w p h =
+    put_mid-paste i (e - i) l ys vs (length vs) w (omega arith) refl
+    ∙ ap (λ (xs : List ℕ). take i l ++ xs ++ drop (i + length vs) l) (take-length vs) ∙ sym (sets-eq vs l i (omega arith))

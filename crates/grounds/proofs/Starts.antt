@@ -2,7 +2,6 @@
 use Prim.Native.Nat.{ℕ, zero, suc, ◌+◌, ◌-◌, ◌*◌}
 use mathlib.Core.Path.{◌≡◌, refl, ap, ap₂, ◌∙◌}
 use mathlib.Core.List.{List}
-use native.Mathlib.Nat.{add-mul}
 use native.Mathlib.Omega.{arith}
 use Rattle.columns.specs.Test.{if_eq, if_lt}
 use Rattle.model.specs.Bounds.{no_parent}
@@ -12,10 +11,11 @@ use Rattle.model.specs.declared.Refusal.TheVariants.{BadParentRow}
 use Rattle.model.specs.Catalogue.{tables, columns, parent, rows, row_at, parent_row, table_end}
 use Rattle.model.specs.Check.{start_of, row_code}
 
--- the next row starts a row's width further on
-pub next_row : (cat : List ℕ) (i k : ℕ) → row_at cat i (k + 1) ≡ row_at cat i k + (2 + 4 * columns cat i)
+-- where a row starts: so many rows' widths behind the first
+pub row_start : (cat : List ℕ) (i k : ℕ) {first c : ℕ} → first ≡ row_at cat i 0 → c ≡ columns cat i
+    → first + k * (2 + 4 * c) ≡ row_at cat i k
 unfolding row_at
-next_row cat i k = omega (arith, add-mul k 1 (2 + 4 * columns cat i))
+row_start cat i k e q = rw (e, q) (omega arith)
 
 -- 7 of a row, from the numbers that are read
 pub row_code_is : (cat : List ℕ) (i k : ℕ) {r up above p at : ℕ}

@@ -4,70 +4,58 @@
 // that ask a catalogue.
 #![tactic(auto)]
 
-ghost use Rattle.std.specs.Prelude.{◌≡◌, ◌+◌, ◌-◌, ◌*◌, ◌^◌, ◌<◌};
+ghost use Rattle.std.specs.Prelude.{◌≡◌, ◌+◌, ◌*◌, ◌^◌, ◌<◌};
 ghost use Rattle.model.specs.Catalogue.{tables as tables_of, trailer as trailer_of, table_at, columns as columns_of};
 ghost use Rattle.model.specs.Catalogue.{parent as parent_of, rows as rows_of, row_at, table_end};
 ghost use Rattle.model.specs.Catalogue.{visible as visible_of, inherited as inherited_of, sets as sets_of};
 ghost use Rattle.model.specs.Check.{Accepted};
 
+mod target;
+
 use bits::power;
 use model::TABLE_BOUND;
-
-// n - k, or 0 where k is more.
-pub fn back(n: usize, k: usize) -> usize
-    ensures { result ≡ n - k }
-{
-    if k <= n {
-        return n - k;
-    }
-    0
-}
+pub use target::Target;
 
 // How many tables the trailer names.
 pub fn tables(cat: &[u8]) -> u16
     ensures { result ≡ tables_of cat.now }
 {
-    file::u16_at(cat, back(cat.len(), 6))
+    file::u16_at(cat, cat.len().saturating_sub(6))
 }
 
 // Where the trailer starts.
 pub fn trailer(cat: &[u8]) -> u32
     ensures { result ≡ trailer_of cat.now }
 {
-    file::u32_at(cat, back(cat.len(), 4))
+    file::u32_at(cat, cat.len().saturating_sub(4))
 }
 
 // Where a table starts.
 pub fn table_at(cat: &[u8], table: u32) -> u32
     ensures { result ≡ table_at cat.now table }
 {
-    let at = trailer(cat) as usize;
-    let n = table as usize;
-    file::u32_at(cat, at + 4 * n)
+    file::u32_at(cat, trailer(cat) as usize + 4 * table as usize)
 }
 
 // How many columns a table has.
 pub fn columns(cat: &[u8], table: u32) -> u16
     ensures { result ≡ columns_of cat.now table }
 {
-    let at = table_at(cat, table) as usize;
-    file::u16_at(cat, at)
+    file::u16_at(cat, table_at(cat, table) as usize)
 }
 
 // The parent table of a table.
 pub fn parent(cat: &[u8], table: u32) -> u16
     ensures { result ≡ parent_of cat.now table }
 {
-    let at = table_at(cat, table) as usize;
-    file::u16_at(cat, at + 2)
+    file::u16_at(cat, table_at(cat, table) as usize + 2)
 }
 
 // How many rows a table has.
 pub fn rows(cat: &[u8], table: u32) -> u16
     ensures { result ≡ rows_of cat.now table }
 {
-    let at = table_at(cat, table) as usize;
-    file::u16_at(cat, at + 4)
+    file::u16_at(cat, table_at(cat, table) as usize + 4)
 }
 
 // Where row k of a table starts.
@@ -77,8 +65,7 @@ pub fn row_at(cat: &[u8], table: u32, k: u32) -> usize
 {
     let at = table_at(cat, table) as usize;
     let c = columns(cat, table) as usize;
-    let n = k as usize;
-    at + 6 + n * (2 + 4 * c)
+    at + 6 + k as usize * (2 + 4 * c)
 }
 
 // The first byte after a table's rows.
@@ -86,25 +73,21 @@ pub fn table_end(cat: &[u8], table: u32) -> usize
     ensures is { result ≡ table_end cat.now table }
     ensures small { result < 2 ^ 60 }
 {
-    let n = rows(cat, table) as u32;
-    row_at(cat, table, n)
+    row_at(cat, table, u32::from(rows(cat, table)))
 }
 
 // How many columns are visible in a table.
 pub fn visible(cat: &[u8], table: u32) -> u32
     ensures { result ≡ visible_of cat.now table }
 {
-    let mut sum: u32 = 0;
+    let mut sum = 0;
     let mut at = table;
-    let mut left = TABLE_BOUND;
-    while 0 < left {
-        let c = columns(cat, at) as u32;
-        sum += c;
+    for _ in 0..TABLE_BOUND {
+        sum += u32::from(columns(cat, at));
         if at == 0 {
             return sum;
         }
-        at = parent(cat, at) as u32;
-        left -= 1;
+        at = u32::from(parent(cat, at));
     }
     sum
 }
@@ -113,12 +96,7 @@ pub fn visible(cat: &[u8], table: u32) -> u32
 pub fn inherited(cat: &[u8], table: u32) -> u32
     ensures { result ≡ inherited_of cat.now table }
 {
-    let all = visible(cat, table);
-    let own = columns(cat, table) as u32;
-    if own <= all {
-        return all - own;
-    }
-    0
+    visible(cat, table).saturating_sub(u32::from(columns(cat, table)))
 }
 
 // The sets over all targets of an accepted catalogue.
@@ -126,12 +104,9 @@ pub fn sets(cat: &[u8]) -> u32
     requires { Accepted cat.now }
     ensures { result ≡ sets_of cat.now }
 {
-    let n = tables(cat) as u32;
-    let mut sum: u32 = 0;
-    let mut target: u32 = 0;
-    while target < n {
+    let mut sum = 0;
+    for target in 0..u32::from(tables(cat)) {
         sum += power(visible(cat, target));
-        target += 1;
     }
     sum
 }

@@ -9,6 +9,7 @@ pub mod Listed
 pub mod Target
 pub mod Check
 pub mod Climb
+pub mod Codes
 pub mod Ancestors
 pub mod Earlier
 pub mod Sums

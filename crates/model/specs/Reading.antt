@@ -1,6 +1,6 @@
 -- Reading a packed list behind any bytes ("Packed list"): its trailer, 14 and 15, and what is read of a file that has
 -- none of these grounds.
-use Rattle.std.specs.Prelude.{ℕ, zero, suc, ◌-◌, List, [], ◌∷◌, length, take, drop}
+use Rattle.std.specs.Prelude.{ℕ, zero, suc, ◌-◌, List, [], ◌∷◌, length, take, drop, Option, Some, None}
 use Rattle.columns.specs.Test.{if_eq, if_lt}
 use Rattle.model.specs.Bytes.{u32_at}
 use Rattle.model.specs.Refusal.{number, or_else}
@@ -9,8 +9,6 @@ use Rattle.model.specs.Calls.{run_after}
 use Rattle.model.specs.Entries.{entries_from, entries_code}
 use Rattle.model.specs.Packing.{trailer_bytes, distance_of}
 use Rattle.model.specs.declared.Entry.{Entry}
-use Rattle.model.specs.declared.ReadAnswer.{ReadAnswer}
-use Rattle.model.specs.declared.ReadAnswer.TheVariants.{Next, End}
 use Rattle.model.specs.declared.Refusal.TheVariants.{NoList}
 
 -- the trailer's two numbers
@@ -60,7 +58,7 @@ unfoldable pub run_read : List ℕ → ℕ → List Entry → List Entry
 run_read file from run = run_after (read_code file) (read_from file from (length run)) run
 
 -- the entry at a position of a list, and 'end' behind its last entry
-unfoldable pub read_at : List Entry → ℕ → ReadAnswer
-read_at [] i = End
-read_at (e ∷ es) zero = Next e
+unfoldable pub read_at : List Entry → ℕ → Option Entry
+read_at [] i = None
+read_at (e ∷ es) zero = Some e
 read_at (e ∷ es) (suc i) = read_at es i

@@ -1,8 +1,9 @@
 -- The refusals and their numbers ("Feeder desk codes", and document 02), and how grounds are tried in order: 0 says
 -- that there is none.
-use Rattle.std.specs.Prelude.{ℕ, zero, suc}
+use Rattle.std.specs.Prelude.{ℕ, zero, suc, ◌≡◌, ◌<◌, ◌⊎◌, Result, Ok, Err, MatchResult}
 use Rattle.columns.specs.Test.{if_eq}
 use Rattle.model.specs.declared.Refusal.{Refusal}
+use Rattle.model.specs.declared.NotARefusal.{NotARefusal}
 use Rattle.model.specs.declared.Refusal.TheVariants.{FileTooShort, BadTrailer, BadExtent, TableTooLarge}
 use Rattle.model.specs.declared.Refusal.TheVariants.{BadParentTable, TooManyVisible, BadParentRow, UnknownTable}
 use Rattle.model.specs.declared.Refusal.TheVariants.{UnknownColumn, UnknownRight, TooFewWords, PastTheEnd}
@@ -39,6 +40,15 @@ number NoRoom = 22  -- no room
 -- the number of the last refusal: each later one adds a line above and moves this one
 abbrev pub last_refusal : ℕ
 last_refusal = number NoRoom
+
+-- what is read of a number: the refusal that has it, or that none has it
+abbrev pub Numbered : ℕ → Result Refusal NotARefusal → Type 0
+Numbered n r = MatchResult r (λ why. number why ≡ n) (λ e. (e.0 ≡ n) × ((n ≡ 0) ⊎ (last_refusal < n)))
+
+-- the number of the refusal that a test gives, and 0 where it gives none
+abbrev pub code_of : {A : Type 0} → Result A Refusal → ℕ
+code_of (Ok a) = 0
+code_of (Err r) = number r
 
 -- the first ground of two
 unfoldable pub or_else : ℕ → ℕ → ℕ

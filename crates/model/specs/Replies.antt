@@ -1,6 +1,6 @@
 -- What calls reply, and what they leave in lent memory: questions, pairs and listing calls on small catalogues, and a
 -- packed list. And what the listing program prints beside the album's lines.
-use Rattle.std.specs.Prelude.{ℕ, ◌≤◌, ◌<◌, ◌≡◌, List, [], ◌∷◌, ◌++◌, length, replicate, drop}
+use Rattle.std.specs.Prelude.{ℕ, ◌≤◌, ◌<◌, ◌≡◌, List, [], ◌∷◌, ◌++◌, length, replicate, drop, Some, None}
 use Rattle.model.specs.Bounds.{work_bound, row}
 use Rattle.model.specs.Reply.{Reply, refused, answered, words_after}
 use Rattle.model.specs.Check.{check_code}
@@ -17,7 +17,6 @@ use Rattle.model.specs.Damaged.{cut, too_wide}
 use Rattle.model.specs.Line.{in_line}
 use Rattle.model.specs.RefusedCalls.{lost_entry}
 use Rattle.model.specs.declared.Entry.{Entry}
-use Rattle.model.specs.declared.ReadAnswer.TheVariants.{Next, End}
 
 -- K1 to K6 and K8 as questions, K1 and K2 as pairs, the first of several pairs, and refused ones
 pub record QuestionReplies : Type 0 where
@@ -159,10 +158,10 @@ pub record PackedReplies : Type 0 where
   pub no_entries : entries_read lost_entry ≡ []
   pub no_front : front_read (7 ∷ 8 ∷ drop 1 some_bytes) ≡ []
   -- entry by entry, and 'end' after the last
-  pub first : read_at (entries_read behind) 0 ≡ Next (entry 1 1 2)
-  pub last : read_at (entries_read behind) 2 ≡ Next (entry 2 258 3)
-  pub end : read_at (entries_read behind) 3 ≡ End
-  pub past_end : read_at (entries_read behind) 9 ≡ End
+  pub first : read_at (entries_read behind) 0 ≡ Some (entry 1 1 2)
+  pub last : read_at (entries_read behind) 2 ≡ Some (entry 2 258 3)
+  pub end : read_at (entries_read behind) 3 ≡ None
+  pub past_end : read_at (entries_read behind) 9 ≡ None
   -- from an entry on into a run: as many as it has records, the others untouched
   pub from_second : read_meaning behind 1 4 ≡ answered (2 ∷ [])
   pub run_from_second : run_read behind 1 (blank ∷ blank ∷ blank ∷ blank ∷ [])

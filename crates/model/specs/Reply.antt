@@ -1,26 +1,15 @@
 -- What a public call replies: a refusal's number alone, or the answer's values. One definition for each answer lists
 -- its cases.
-use Rattle.std.specs.Prelude.{ℕ, List, [], ◌∷◌, length, replicate}
+use Rattle.std.specs.Prelude.{ℕ, Bool, true, false, List, [], ◌∷◌, length, replicate, Option, Some, None}
+use Rattle.std.specs.Prelude.{Result, Ok, Err}
 use Rattle.columns.specs.Test.{if_eq}
 use Rattle.model.specs.Refusal.{number}
-use Rattle.model.specs.declared.CheckAnswer.{CheckAnswer}
-use Rattle.model.specs.declared.CheckAnswer.TheVariants as check-answer
-use Rattle.model.specs.declared.AskAnswer.{AskAnswer}
-use Rattle.model.specs.declared.AskAnswer.TheVariants as ask-answer
-use Rattle.model.specs.declared.PairAnswer.{PairAnswer}
-use Rattle.model.specs.declared.PairAnswer.TheVariants as pair-answer
-use Rattle.model.specs.declared.ListAnswer.{ListAnswer}
-use Rattle.model.specs.declared.ListAnswer.TheVariants as list-answer
-use Rattle.model.specs.declared.PackAnswer.{PackAnswer}
-use Rattle.model.specs.declared.PackAnswer.TheVariants as pack-answer
-use Rattle.model.specs.declared.OpenAnswer.{OpenAnswer}
-use Rattle.model.specs.declared.OpenAnswer.TheVariants as open-answer
-use Rattle.model.specs.declared.EntriesAnswer.{EntriesAnswer}
-use Rattle.model.specs.declared.EntriesAnswer.TheVariants as entries-answer
-use Rattle.model.specs.declared.VerifyAnswer.{VerifyAnswer}
-use Rattle.model.specs.declared.VerifyAnswer.TheVariants as verify-answer
-use Rattle.model.specs.declared.ConvertAnswer.{ConvertAnswer}
-use Rattle.model.specs.declared.ConvertAnswer.TheVariants as convert_answer
+use Rattle.model.specs.declared.Refusal.{Refusal}
+use Rattle.model.specs.declared.Checked.{Checked}
+use Rattle.model.specs.declared.RowPair.{RowPair}
+use Rattle.model.specs.declared.Progress.{Progress}
+use Rattle.model.specs.declared.Opened.{Opened}
+use Rattle.model.specs.declared.Verified.{Verified}
 
 pub data Reply : Type 0 where
   refused : ℕ → Reply
@@ -35,48 +24,48 @@ unfoldable pub words_after : ℕ → List ℕ → List ℕ
 words_after code words = if_eq code 0 (replicate (length words) 0) words
 
 -- tables and sets over all targets
-abbrev pub check_reply : CheckAnswer → Reply
-check_reply (check-answer.Sound t s) = answered (t ∷ s ∷ [])
-check_reply (check-answer.Refused r) = refused (number r)
+abbrev pub check_reply : Result Checked Refusal → Reply
+check_reply (Ok c) = answered (c.tables ∷ c.sets ∷ [])
+check_reply (Err r) = refused (number r)
 
 -- 1 for 'holds', 0 for 'breaks'
-abbrev pub ask_reply : AskAnswer → Reply
-ask_reply ask-answer.Holds = answered (1 ∷ [])
-ask_reply ask-answer.Breaks = answered (0 ∷ [])
-ask_reply (ask-answer.Refused r) = refused (number r)
+abbrev pub ask_reply : Result Bool Refusal → Reply
+ask_reply (Ok true) = answered (1 ∷ [])
+ask_reply (Ok false) = answered (0 ∷ [])
+ask_reply (Err r) = refused (number r)
 
 -- the two rows, or no value for 'none'
-abbrev pub pair_reply : PairAnswer → Reply
-pair_reply (pair-answer.Rows x y) = answered (x ∷ y ∷ [])
-pair_reply pair-answer.Nothing = answered []
-pair_reply (pair-answer.Refused r) = refused (number r)
+abbrev pub pair_reply : Result (Option RowPair) Refusal → Reply
+pair_reply (Ok (Some p)) = answered (p.first ∷ p.second ∷ [])
+pair_reply (Ok None) = answered []
+pair_reply (Err r) = refused (number r)
 
 -- the next place, the number of sets passed, the entry count
-abbrev pub list_reply : ListAnswer → Reply
-list_reply (list-answer.Listed p k c) = answered (p ∷ k ∷ c ∷ [])
-list_reply (list-answer.Refused r) = refused (number r)
+abbrev pub list_reply : Result Progress Refusal → Reply
+list_reply (Ok l) = answered (l.place ∷ l.passed ∷ l.count ∷ [])
+list_reply (Err r) = refused (number r)
 
 -- the number of bytes written
-abbrev pub pack_reply : PackAnswer → Reply
-pack_reply (pack-answer.Packed n) = answered (n ∷ [])
-pack_reply (pack-answer.Refused r) = refused (number r)
+abbrev pub pack_reply : Result ℕ Refusal → Reply
+pack_reply (Ok n) = answered (n ∷ [])
+pack_reply (Err r) = refused (number r)
 
 -- the number of entries, and of bytes in front
-abbrev pub open_reply : OpenAnswer → Reply
-open_reply (open-answer.Opened k n) = answered (k ∷ n ∷ [])
-open_reply (open-answer.Refused r) = refused (number r)
+abbrev pub open_reply : Result Opened Refusal → Reply
+open_reply (Ok o) = answered (o.entries ∷ o.front ∷ [])
+open_reply (Err r) = refused (number r)
 
 -- the number of entries read
-abbrev pub entries_reply : EntriesAnswer → Reply
-entries_reply (entries-answer.Read k) = answered (k ∷ [])
-entries_reply (entries-answer.Refused r) = refused (number r)
+abbrev pub entries_reply : Result ℕ Refusal → Reply
+entries_reply (Ok k) = answered (k ∷ [])
+entries_reply (Err r) = refused (number r)
 
 -- the number of entries, and of evidence records
-abbrev pub verify_reply : VerifyAnswer → Reply
-verify_reply (verify-answer.Accepted k n) = answered (k ∷ n ∷ [])
-verify_reply (verify-answer.Refused r) = refused (number r)
+abbrev pub verify_reply : Result Verified Refusal → Reply
+verify_reply (Ok v) = answered (v.entries ∷ v.records ∷ [])
+verify_reply (Err r) = refused (number r)
 
 -- the number of bytes written
-abbrev pub convert_reply : ConvertAnswer → Reply
-convert_reply (convert_answer.Converted n) = answered (n ∷ [])
-convert_reply (convert_answer.Refused r) = refused (number r)
+abbrev pub convert_reply : Result ℕ Refusal → Reply
+convert_reply (Ok n) = answered (n ∷ [])
+convert_reply (Err r) = refused (number r)

@@ -1,5 +1,5 @@
 -- The document's numbers: its bounds, the order of bytes, the number of each refusal, and the values of each answer.
-use Rattle.std.specs.Prelude.{ℕ, ◌≡◌, [], ◌∷◌, take, drop}
+use Rattle.std.specs.Prelude.{ℕ, ◌≡◌, true, false, [], ◌∷◌, take, drop, Some, None, Ok, Err}
 use Rattle.columns.specs.Bound.{column_bound}
 use Rattle.model.specs.Bounds.{table_bound, row_bound, work_bound, smallest_file, no_parent, missing, row, file_bound}
 use Rattle.model.specs.Bytes.{u16_at, u32_at, bytes2, bytes4, Bytes}
@@ -16,15 +16,6 @@ use Rattle.model.specs.declared.Refusal.TheVariants.{UnknownColumn, UnknownRight
 use Rattle.model.specs.declared.Refusal.TheVariants.{RunTooShort, NoList, BadEntry, OutputTooShort}
 use Rattle.model.specs.declared.Refusal.TheVariants.{FalseRecord, UnsoundEntry, UncoveredSet}
 use Rattle.model.specs.declared.Refusal.TheVariants.{BadText, UnfitText, NoRoom}
-use Rattle.model.specs.declared.CheckAnswer.TheVariants as check-answer
-use Rattle.model.specs.declared.AskAnswer.TheVariants as ask-answer
-use Rattle.model.specs.declared.PairAnswer.TheVariants as pair-answer
-use Rattle.model.specs.declared.ListAnswer.TheVariants as list-answer
-use Rattle.model.specs.declared.PackAnswer.TheVariants as pack-answer
-use Rattle.model.specs.declared.OpenAnswer.TheVariants as open-answer
-use Rattle.model.specs.declared.EntriesAnswer.TheVariants as entries-answer
-use Rattle.model.specs.declared.VerifyAnswer.TheVariants as verify-answer
-use Rattle.model.specs.declared.ConvertAnswer.TheVariants as convert_answer
 
 -- "Bounds", "The catalogue file" and "Agreement"
 pub record BoundValues : Type 0 where
@@ -101,30 +92,30 @@ pub record AnswerValues : Type 0 where
   pub no_ground : reply_of 0 (7 ∷ []) ≡ answered (7 ∷ [])
   pub a_ground : (n : ℕ) → (n ≡ 0 → ⊥) → reply_of n (7 ∷ []) ≡ refused n
   -- the check: tables, and sets over all targets
-  pub sound : (t s : ℕ) → check_reply (check-answer.Sound t s) ≡ answered (t ∷ s ∷ [])
+  pub sound : (t s : ℕ) → check_reply (Ok (record { tables = t; sets = s })) ≡ answered (t ∷ s ∷ [])
   -- the question: 1 for 'holds', 0 for 'breaks'
-  pub holds : ask_reply ask-answer.Holds ≡ answered (1 ∷ [])
-  pub breaks : ask_reply ask-answer.Breaks ≡ answered (0 ∷ [])
+  pub holds : ask_reply (Ok true) ≡ answered (1 ∷ [])
+  pub breaks : ask_reply (Ok false) ≡ answered (0 ∷ [])
   -- the pair: lower row first, or none
-  pub rows : (p q : ℕ) → pair_reply (pair-answer.Rows p q) ≡ answered (p ∷ q ∷ [])
-  pub none : pair_reply pair-answer.Nothing ≡ answered []
+  pub rows : (p q : ℕ) → pair_reply (Ok (Some (record { first = p; second = q }))) ≡ answered (p ∷ q ∷ [])
+  pub none : pair_reply (Ok None) ≡ answered []
   -- the listing: next place, sets passed, entry count
-  pub listed : (p k c : ℕ) → list_reply (list-answer.Listed p k c) ≡ answered (p ∷ k ∷ c ∷ [])
+  pub listed : (p k c : ℕ) → list_reply (Ok (record { place = p; passed = k; count = c })) ≡ answered (p ∷ k ∷ c ∷ [])
   -- packing: bytes written; opening: entries and bytes in front; reading: entries read
-  pub packed : (n : ℕ) → pack_reply (pack-answer.Packed n) ≡ answered (n ∷ [])
-  pub opened : (k n : ℕ) → open_reply (open-answer.Opened k n) ≡ answered (k ∷ n ∷ [])
-  pub read : (k : ℕ) → entries_reply (entries-answer.Read k) ≡ answered (k ∷ [])
+  pub packed : (n : ℕ) → pack_reply (Ok n) ≡ answered (n ∷ [])
+  pub opened : (k n : ℕ) → open_reply (Ok (record { entries = k; front = n })) ≡ answered (k ∷ n ∷ [])
+  pub read : (k : ℕ) → entries_reply (Ok k) ≡ answered (k ∷ [])
   -- the check by evidence: entries, and records
-  pub accepted : (k n : ℕ) → verify_reply (verify-answer.Accepted k n) ≡ answered (k ∷ n ∷ [])
+  pub accepted : (k n : ℕ) → verify_reply (Ok (record { entries = k; records = n })) ≡ answered (k ∷ n ∷ [])
   -- converting: bytes
-  pub converted_bytes : (n : ℕ) → convert_reply (convert_answer.Converted n) ≡ answered (n ∷ [])
+  pub converted_bytes : (n : ℕ) → convert_reply (Ok n) ≡ answered (n ∷ [])
   -- and each refused
-  pub not_sound : (r : Refusal) → check_reply (check-answer.Refused r) ≡ refused (number r)
-  pub not_asked : (r : Refusal) → ask_reply (ask-answer.Refused r) ≡ refused (number r)
-  pub not_paired : (r : Refusal) → pair_reply (pair-answer.Refused r) ≡ refused (number r)
-  pub not_listed : (r : Refusal) → list_reply (list-answer.Refused r) ≡ refused (number r)
-  pub not_packed : (r : Refusal) → pack_reply (pack-answer.Refused r) ≡ refused (number r)
-  pub not_opened : (r : Refusal) → open_reply (open-answer.Refused r) ≡ refused (number r)
-  pub not_read : (r : Refusal) → entries_reply (entries-answer.Refused r) ≡ refused (number r)
-  pub not_accepted : (r : Refusal) → verify_reply (verify-answer.Refused r) ≡ refused (number r)
-  pub not_converted : (r : Refusal) → convert_reply (convert_answer.Refused r) ≡ refused (number r)
+  pub not_sound : (r : Refusal) → check_reply (Err r) ≡ refused (number r)
+  pub not_asked : (r : Refusal) → ask_reply (Err r) ≡ refused (number r)
+  pub not_paired : (r : Refusal) → pair_reply (Err r) ≡ refused (number r)
+  pub not_listed : (r : Refusal) → list_reply (Err r) ≡ refused (number r)
+  pub not_packed : (r : Refusal) → pack_reply (Err r) ≡ refused (number r)
+  pub not_opened : (r : Refusal) → open_reply (Err r) ≡ refused (number r)
+  pub not_read : (r : Refusal) → entries_reply (Err r) ≡ refused (number r)
+  pub not_accepted : (r : Refusal) → verify_reply (Err r) ≡ refused (number r)
+  pub not_converted : (r : Refusal) → convert_reply (Err r) ≡ refused (number r)

@@ -4,6 +4,9 @@
 // Relies on `columns` for sets of columns and their order. Every other crate cites it.
 #![tactic(auto)]
 
+ghost use Rattle.std.specs.Prelude.{◌≡◌};
+ghost use Rattle.model.specs.Refusal.{number, Numbered};
+
 // The bounds, once in code; specs/Bounds.antt has the same numbers in the definitions. The bound on columns is
 // `columns::COLUMN_BOUND`.
 pub const TABLE_BOUND: u32 = 16;
@@ -59,101 +62,113 @@ pub struct Evidence {
     pub second: u16,
 }
 
-// Why a call is refused; `number` of specs/Refusal.antt gives each its number.
+// Why a call is refused: each with the document's number; `number` of specs/Refusal.antt has the same.
 #[derive(Clone, Copy)]
 pub enum Refusal {
-    FileTooShort,
-    BadTrailer,
-    BadExtent,
-    TableTooLarge,
-    BadParentTable,
-    TooManyVisible,
-    BadParentRow,
-    UnknownTable,
-    UnknownColumn,
-    UnknownRight,
-    TooFewWords,
-    PastTheEnd,
-    RunTooShort,
-    NoList,
-    BadEntry,
-    OutputTooShort,
-    FalseRecord,
-    UnsoundEntry,
-    UncoveredSet,
-    BadText,
-    UnfitText,
-    NoRoom,
+    FileTooShort = 1,
+    BadTrailer = 2,
+    BadExtent = 3,
+    TableTooLarge = 4,
+    BadParentTable = 5,
+    TooManyVisible = 6,
+    BadParentRow = 7,
+    UnknownTable = 8,
+    UnknownColumn = 9,
+    UnknownRight = 10,
+    TooFewWords = 11,
+    PastTheEnd = 12,
+    RunTooShort = 13,
+    NoList = 14,
+    BadEntry = 15,
+    OutputTooShort = 16,
+    FalseRecord = 17,
+    UnsoundEntry = 18,
+    UncoveredSet = 19,
+    BadText = 20,
+    UnfitText = 21,
+    NoRoom = 22,
+}
+
+// The document's number of a refusal.
+impl From<Refusal> for u32 {
+    ghost from_gives = { λ why n. n ≡ number why };
+
+    fn from(why: Refusal) -> u32 {
+        why as u32
+    }
+}
+
+// A number that no refusal has.
+#[derive(Clone, Copy)]
+pub struct NotARefusal(pub u32);
+
+// The refusal that has a number.
+impl TryFrom<u32> for Refusal {
+    type Error = NotARefusal;
+
+    ghost try_from_gives = { Numbered };
+
+    fn try_from(code: u32) -> Result<Refusal, NotARefusal> {
+        match code {
+            1 => Ok(Refusal::FileTooShort),
+            2 => Ok(Refusal::BadTrailer),
+            3 => Ok(Refusal::BadExtent),
+            4 => Ok(Refusal::TableTooLarge),
+            5 => Ok(Refusal::BadParentTable),
+            6 => Ok(Refusal::TooManyVisible),
+            7 => Ok(Refusal::BadParentRow),
+            8 => Ok(Refusal::UnknownTable),
+            9 => Ok(Refusal::UnknownColumn),
+            10 => Ok(Refusal::UnknownRight),
+            11 => Ok(Refusal::TooFewWords),
+            12 => Ok(Refusal::PastTheEnd),
+            13 => Ok(Refusal::RunTooShort),
+            14 => Ok(Refusal::NoList),
+            15 => Ok(Refusal::BadEntry),
+            16 => Ok(Refusal::OutputTooShort),
+            17 => Ok(Refusal::FalseRecord),
+            18 => Ok(Refusal::UnsoundEntry),
+            19 => Ok(Refusal::UncoveredSet),
+            20 => Ok(Refusal::BadText),
+            21 => Ok(Refusal::UnfitText),
+            22 => Ok(Refusal::NoRoom),
+            _ => Err(NotARefusal(code)),
+        }
+    }
 }
 
 // What checking a catalogue answers: how many tables, and how many sets over all targets.
 #[derive(Clone, Copy)]
-pub enum CheckAnswer {
-    Sound { tables: u32, sets: u32 },
-    Refused(Refusal),
+pub struct Checked {
+    pub tables: u32,
+    pub sets: u32,
 }
 
-// Does the dependency hold?
+// The first pair of rows that breaks a dependency, the lower row first.
 #[derive(Clone, Copy)]
-pub enum AskAnswer {
-    Holds,
-    Breaks,
-    Refused(Refusal),
-}
-
-// The first pair of rows that breaks the dependency, the lower row first, or 'none'.
-#[derive(Clone, Copy)]
-pub enum PairAnswer {
-    Rows { first: u32, second: u32 },
-    Nothing,
-    Refused(Refusal),
+pub struct RowPair {
+    pub first: u32,
+    pub second: u32,
 }
 
 // What a listing call answers: the next place, how many sets it passed and how many entries it wrote.
 #[derive(Clone, Copy)]
-pub enum ListAnswer {
-    Listed { place: u32, passed: u32, count: u32 },
-    Refused(Refusal),
+pub struct Progress {
+    pub place: u32,
+    pub passed: u32,
+    pub count: u32,
 }
 
-// How many bytes packing wrote.
+// A packed list that may be read: how many entries it has, and how many bytes stand in front of it.
 #[derive(Clone, Copy)]
-pub enum PackAnswer {
-    Packed { bytes: usize },
-    Refused(Refusal),
-}
-
-// Whether a packed list may be read: how many entries it has, and how many bytes stand in front of it.
-#[derive(Clone, Copy)]
-pub enum OpenAnswer {
-    Opened { entries: u32, front: usize },
-    Refused(Refusal),
-}
-
-// The next entry of a packed list, or 'end'.
-#[derive(Clone, Copy)]
-pub enum ReadAnswer {
-    Next(Entry),
-    End,
-}
-
-// How many entries of a packed list were read into a lent run.
-#[derive(Clone, Copy)]
-pub enum EntriesAnswer {
-    Read { count: usize },
-    Refused(Refusal),
+pub struct Opened {
+    pub entries: u32,
+    pub front: usize,
 }
 
 // What the check of a packed list by evidence answers: how many entries and how many records were accepted.
 #[derive(Clone, Copy)]
-pub enum VerifyAnswer {
-    Accepted { entries: u32, records: usize },
-    Refused(Refusal),
-}
-
-// What converting a supplier's text answers: how many bytes were written.
-#[derive(Clone, Copy)]
-pub enum ConvertAnswer {
-    Converted { bytes: u32 },
-    Refused(Refusal),
+pub struct Verified {
+    pub entries: u32,
+    pub records: usize,
 }

@@ -1,10 +1,10 @@
 -- The parts of a line, and the lines of a run, one behind the other.
-use Prim.Native.Nat.{ℕ, ◌+◌, ◌<◌}
+use Prim.Native.Nat.{ℕ, ◌+◌, ◌≤◌, ◌<◌}
 use mathlib.Core.Path.{◌≡◌, sym, ap, ◌∙◌}
 use mathlib.Core.List.{List, [], ◌∷◌, ◌++◌, append-nil}
 use native.Mathlib.Numerals.{add-one}
 use lib.ListN.{length, take, get_or}
-use lib.Seq.{take-suc}
+use lib.Seq.{take-suc, take_all}
 use Rattle.model.specs.Text.{decimal, tables_word, sets_word, entries_word, refused_word, line_feed}
 use Rattle.model.specs.Text.{entry_text, entry_line, lines_of, head_line, refused_line}
 use Rattle.model.specs.declared.Entry.{Entry}
@@ -35,6 +35,10 @@ pub puts_line_more : (run : List Entry) (i : ℕ) (d : Entry) {at : ℕ} {b₀ b
     → Puts (lines_of (take (i + 1) run)) at b₀ b₂ n₂
 puts_line_more run i d h p q =
     puts_same (one_more run i d h) (puts_both (lines_of (take i run)) (entry_line (get_or run i d)) p q)
+
+pub puts_all : (run : List Entry) (i : ℕ) {at : ℕ} {b₀ b₁ : List ℕ} {n₁ : ℕ} → length run ≤ i
+    → Puts (lines_of (take i run)) at b₀ b₁ n₁ → Puts (lines_of run) at b₀ b₁ n₁
+puts_all run i h p = puts_same (ap lines_of (take_all i run h)) p
 
 pub puts_head : (tables sets entries : ℕ) {b₀ b₁ b₂ b₃ b₄ b₅ b₆ b₇ : List ℕ} {n₁ n₂ n₃ n₄ n₅ n₆ n₇ : ℕ}
     → Puts tables_word 0 b₀ b₁ n₁ → Puts (decimal tables) n₁ b₁ b₂ n₂ → Puts sets_word n₂ b₂ b₃ n₃

@@ -1,13 +1,10 @@
 // Not for callers: the lines of the listing program, put into lent bytes.
-// Relies on `text` for words, numbers and entries, and on `listing` for what a run is. Called by `pages`.
+// Relies on `text` for words, numbers and entries. Called by `pages`.
 #![tactic(auto)]
 
-ghost use Rattle.std.specs.Prelude.{◌≤◌, length, take};
 ghost use Rattle.model.specs.Text.{entry_line, lines_of, head_line, refused_line};
 ghost use Rattle.text.specs.Puts.{Puts};
-ghost use Rattle.listing.specs.Filled.{run_bound};
 
-use listing::Filled;
 use model::Entry;
 
 // The line of an entry.
@@ -18,18 +15,13 @@ fn put_line(out: &mut [u8], at: usize, e: Entry) -> usize
     text::put_word(out, next, b"\n")
 }
 
-// The lines of the first entries of a run.
-pub fn put_run(out: &mut [u8], at: usize, filled: Filled, count: u32) -> usize
-    requires { (count ≤ run_bound) × (count ≤ length filled.run) }
-    ensures { Puts (lines_of (take count filled.run)) at out.old out.new result }
+// The lines of the entries of a run.
+pub fn put_run(out: &mut [u8], at: usize, run: &[Entry]) -> usize
+    ensures { Puts (lines_of run.now) at out.old out.new result }
 {
-    let n = count as usize;
     let mut next = at;
-    let mut i: usize = 0;
-    while i < n {
-        let e = filled.run[i];
-        next = put_line(out, next, e);
-        i += 1;
+    for e in run {
+        next = put_line(out, next, *e);
     }
     next
 }

@@ -1,12 +1,10 @@
 -- The contract of passing the set of a walk.
-use Rattle.std.specs.Prelude.{ℕ, suc, ◌+◌, ◌-◌, ◌*◌, ◌^◌, ◌≤◌, ◌<◌}
+use Rattle.std.specs.Prelude.{ℕ, suc, ◌+◌, ◌-◌, ◌*◌, ◌^◌, ◌≤◌, ◌<◌, Option, Some, None}
 use Rattle.std.specs.Int.Count.{ones}
 use Rattle.columns.specs.Bound.{column_bound}
 use Rattle.columns.specs.Test.{if_lt}
 use Rattle.model.specs.Bounds.{table_bound}
 use Rattle.passing.specs.declared.Walk.{Walk}
-use Rattle.passing.specs.declared.Reached.{Reached}
-use Rattle.passing.specs.declared.Reached.TheVariants.{At, Stop}
 
 -- the rights that a set can have: each column, and the row
 abbrev pub right_bound : ℕ
@@ -29,9 +27,9 @@ passed_on w mask =
       pending = mask;
     }
 
--- and if its entries do not fit, the walk stops
-unfoldable pub passed_by : Walk → ℕ → Reached
-passed_by w mask = if_lt w.room (ones mask) Stop (At (passed_on w mask))
+-- and none if its entries do not fit
+unfoldable pub passed_by : Walk → ℕ → Option Walk
+passed_by w mask = if_lt w.room (ones mask) None (Some (passed_on w mask))
 
 -- the numbers of a walk are such that its set can be passed with these rights
 pub record Passable (w : Walk) (mask : ℕ) : Type 0 where

@@ -33,21 +33,14 @@ pub struct Walk {
     pub pending: u32,
 }
 
-// A walk at the next set, or none.
-#[derive(Clone, Copy)]
-pub enum Reached {
-    At(Walk),
-    Stop,
-}
-
-// The walk with its set passed if the entries fit: then the rights are pending.
-pub fn passed(w: Walk, mask: u32) -> Reached
+// The walk with its set passed, and the rights pending; none if the entries do not fit.
+pub fn passed(w: Walk, mask: u32) -> Option<Walk>
     requires { Passable w mask }
     ensures { result ≡ passed_by w mask }
 {
-    let entries = u32::count_ones(mask);
+    let entries = mask.count_ones();
     if w.room < entries as usize {
-        return Reached::Stop;
+        return None;
     }
     let mut v = w;
     v.place += 1;
@@ -56,5 +49,5 @@ pub fn passed(w: Walk, mask: u32) -> Reached
     v.passed += 1;
     v.count += entries;
     v.pending = mask;
-    Reached::At(v)
+    Some(v)
 }

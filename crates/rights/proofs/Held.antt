@@ -1,11 +1,14 @@
 -- What the work words hold for a view, and the rights that a table gives, or seeds and a cache, or keys alone.
 use Prim.Native.Nat.{ℕ, suc, ◌+◌, ◌-◌, ◌^◌, ◌≤◌, ◌<◌}
 use mathlib.Core.Path.{◌≡◌, sym, ap, subst, ◌∙◌}
+use mathlib.Core.Bool.{Bool, true, false}
 use mathlib.Core.Logic.{◌↔◌}
 use mathlib.Core.List.{List}
 use native.Mathlib.Numerals.{add-one}
 use native.Mathlib.Decide.{dec_lt}
 use native.Mathlib.Omega.{arith}
+use Rattle.std.specs.Prelude.{eqb}
+use Rattle.std.proofs.lemmas.Bool.{eqb-true, eq-eqb}
 use lib.ListN.{length}
 use lib.Pow.{pow_mono}
 use Rattle.columns.specs.Bound.{column_bound}
@@ -150,27 +153,29 @@ seeds_found n x own r before after given =
     }
 
 -- what the words say of what is backed: the bit of the table above that of the row, and the plane behind the seeds
-pub table_backed : (n x : ℕ) (words : List ℕ) → x < 2 ^ n → BackedBy n x Table words (bit (word words x) (n + 1))
+pub table_backed : (n x : ℕ) (words : List ℕ) → x < 2 ^ n
+    → BackedBy n x Table words (eqb (bit (word words x) (n + 1)) 1)
 table_backed n x words l v own e h =
-    subst (λ (b : ℕ). (bit (word words x) b ≡ 1) ↔ Backed v x) (ap suc e ∙ sym (add-one n))
-    (h.backed x (subst (λ (m : ℕ). x < 2 ^ m) (sym e) l))
+    let b = subst (λ (b : ℕ). (bit (word words x) b ≡ 1) ↔ Backed v x) (ap suc e ∙ sym (add-one n))
+    (h.backed x (subst (λ (m : ℕ). x < 2 ^ m) (sym e) l)) in
+    (λ o. b.0 (eqb-true _ _ o), λ w. eq-eqb _ _ (b.1 w))
 
 pub seeds_backed : (n x r : ℕ) (words : List ℕ) → x < 2 ^ n → r ≡ plane_bit words (2 ^ n + x)
-    → BackedBy n x Seeds words r
+    → BackedBy n x Seeds words (eqb r 1)
 seeds_backed n x r words l is v own e h =
     let b = (subst (λ (m : ℕ). Stocked v m own words) e h.stocked).backed x l in
-    (λ o. b.0 (sym is ∙ o), λ w. is ∙ b.1 w)
+    (λ o. b.0 (sym is ∙ eqb-true _ _ o), λ w. eq-eqb _ _ (is ∙ b.1 w))
 
 -- what the filter keeps by it
-pub kept_by : (n x minimal b r : ℕ) (held : Held) (words : List ℕ) → BackedBy n x held words b → b ≡ 1
-    → r ≡ undropped n minimal → KeptBy n x held words minimal r
+pub kept_by : (n x minimal : ℕ) (b : Bool) (r : ℕ) (held : Held) (words : List ℕ) → BackedBy n x held words b
+    → b ≡ true → r ≡ undropped n minimal → KeptBy n x held words minimal r
 kept_by n x minimal b r held words is e stays v own m h =
     kept_backed v x n minimal r m (true_backed v x ((is v own m h).0 e)) stays
 
-pub dropped_by : (n x minimal b : ℕ) (held : Held) (words : List ℕ) → BackedBy n x held words b → (b ≡ 1 → ⊥)
-    → KeptBy n x held words minimal 0
+pub dropped_by : (n x minimal : ℕ) (b : Bool) (held : Held) (words : List ℕ) → BackedBy n x held words b
+    → b ≡ false → KeptBy n x held words minimal 0
 dropped_by n x minimal b held words is d v own m h =
-    kept_no v x minimal (false_backed v x (λ w. d ((is v own m h).1 w)))
+    kept_no v x minimal (false_backed v x (λ w. let t = (is v own m h).1 w in cc))
 
 -- what the filter asks of a target of a listing and a left side of it: no more members than the bound, agreement that
 -- is an equivalence, a set of its members, and the row among its rights

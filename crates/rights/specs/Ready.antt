@@ -1,5 +1,5 @@
 -- What the work words hold for a target between two left sides.
-use Rattle.std.specs.Prelude.{ℕ, ◌-◌, ◌^◌, ◌≤◌, ◌<◌, ◌≡◌, ◌↔◌, List, length}
+use Rattle.std.specs.Prelude.{ℕ, ◌-◌, ◌^◌, ◌≤◌, ◌<◌, ◌≡◌, ◌↔◌, List, length, Bool, true}
 use Rattle.model.specs.View.{View, Backed}
 use Rattle.model.specs.Listing.{Listing}
 use Rattle.table.specs.Words.{word}
@@ -49,10 +49,10 @@ pub record MinimalBy (n x : ℕ) (held : Held) (own : ℕ) (before after : List 
   pub minimal : (v : View) → v.members ≡ n → Holding held v own before → r ≡ minimal_mask v own x
   pub holding : (v : View) → v.members ≡ n → Holding held v own before → Holding held v own after
 
--- what the words say of the left side x: 1 if it is backed, and else 0
-abbrev pub BackedBy : ℕ → ℕ → Held → List ℕ → ℕ → Type 0
+-- what the words say of the left side x: is it backed?
+abbrev pub BackedBy : ℕ → ℕ → Held → List ℕ → Bool → Type 0
 BackedBy n x held words r =
-    (v : View) (own : ℕ) → v.members ≡ n → Holding held v own words → (r ≡ 1) ↔ Backed v x
+    (v : View) (own : ℕ) → v.members ≡ n → Holding held v own words → (r ≡ true) ↔ Backed v x
 
 -- of some rights those that are kept for the left side x
 abbrev pub KeptBy : ℕ → ℕ → Held → List ℕ → ℕ → ℕ → Type 0

@@ -8,7 +8,7 @@
 // `presence`. Called by `walk`; `steps` cites its laws.
 #![tactic(auto)]
 
-ghost use Rattle.std.specs.Prelude.{◌≡◌, ℕ, suc, ◌+◌, ◌-◌, ◌^◌, ◌≤◌, ◌<◌, length};
+ghost use Rattle.std.specs.Prelude.{◌≡◌, ℕ, suc, ◌+◌, ◌-◌, ◌^◌, ◌≤◌, ◌<◌, length, IfSome, MatchOption};
 ghost use Rattle.columns.specs.Bound.{column_bound};
 ghost use Rattle.model.specs.Bounds.{work_bound};
 ghost use Rattle.model.specs.Catalogue.{tables, visible as visible_of};
@@ -30,8 +30,8 @@ use leaders::{ROWS, SIZE};
 use passing::Held;
 use planes::{PLANE, bit_at};
 
-// A target that is entered: what the work words hold for it and all its rights; for one set by itself, the listed
-// rights of that set, and nothing of the words.
+// A target that is entered: what the work words hold for it and all its rights; for one left side alone its listed
+// rights, and nothing of the words.
 #[derive(Clone, Copy)]
 pub struct Entered {
     pub held: Held,
@@ -91,11 +91,7 @@ fn put_behind(plane: &[u32], m: usize, work: &mut [u32])
     ensures { Filled m (m + m) (λ (i : ℕ). word plane.now (i - m)) work.old
         work.new }
 {
-    let mut i: usize = 0;
-    while i < m {
-        work[m + i] = plane[i];
-        i += 1;
-    }
+    work[m..m + m].copy_from_slice(&plane[..m]);
 }
 
 // Puts the plane of backed left sides behind the seeds.
@@ -139,32 +135,34 @@ fn own_rights(cat: &[u8], target: u32) -> u32
     power(end) - power(inherited(cat, target))
 }
 
-// A target is entered: where one set only is asked for, the listed rights of that left side by itself, without work
-// words; and else the words are made ready, with all its rights as the mask. The keys are laid in one place for both.
-fn enter(cat: &[u8], target: u32, left: u32, sets: u32, work: &mut [u32]) -> Entered
+// A target is entered: for one left side alone with its listed rights, without work words; and for none with the words
+// made ready, and all its rights as the mask. The keys are laid in one place for both, so they stand in one frame.
+fn enter(cat: &[u8], target: u32, alone: Option<u32>, work: &mut [u32]) -> Entered
     requires accepted { Accepted cat.now }
     requires target_bound { target < tables cat.now }
-    requires left_bound { (left < 2 ^ visible_of cat.now target) × (work_bound ≤ length work.old) }
-    ensures mask_value { sets ≡ 1 → result.mask ≡ listed_rights (ordinary cat.now) target left }
-    ensures ready { (sets ≡ 1 → ⊥) → Ready (ordinary cat.now) target result.held result.mask work.new }
+    requires left_bound { IfSome alone (λ left. left < 2 ^ visible_of cat.now target) }
+    requires work_bound_in_bounds { work_bound ≤ length work.old }
+    ensures { MatchOption alone (Ready (ordinary cat.now) target result.held result.mask work.new)
+        (λ left. result.mask ≡ listed_rights (ordinary cat.now) target left) }
 {
     let n = visible(cat, target);
     let mut all = [0u16; SIZE];
     lay_all(cat, target, n, &mut all);
     let end = rows(cat, target) as usize;
     let own = own_rights(cat, target);
-    if sets == 1 {
-        let minimal = partition::minimal_alone(&all, n, end, own, left);
-        let mask = filter_alone(cat, target, n, left, minimal);
-        return Entered {
-            held: Held::Table,
-            mask: mask,
-        };
-    }
-    let held = fill(cat, target, &all, n, end, work);
-    Entered {
-        held: held,
-        mask: own,
+    match alone {
+        Some(left) => {
+            let minimal = partition::minimal_alone(&all, n, end, own, left);
+            let mask = filter_alone(cat, target, n, left, minimal);
+            Entered {
+                held: Held::Table,
+                mask,
+            }
+        }
+        None => {
+            let held = fill(cat, target, &all, n, end, work);
+            Entered { held, mask: own }
+        }
     }
 }
 
@@ -175,7 +173,7 @@ pub fn prepare(cat: &[u8], target: u32, work: &mut [u32]) -> Entered
     requires work_bound_in_bounds { work_bound ≤ length work.old }
     ensures { Ready (ordinary cat.now) target result.held result.mask work.new }
 {
-    enter(cat, target, 0, 2, work)
+    enter(cat, target, None, work)
 }
 
 // The listed rights of a left side of the target, by itself.
@@ -185,7 +183,7 @@ pub fn alone(cat: &[u8], target: u32, left: u32, work: &mut [u32]) -> u32
     requires left_bound { (left < 2 ^ visible_of cat.now target) × (work_bound ≤ length work.old) }
     ensures { result ≡ listed_rights (ordinary cat.now) target left }
 {
-    let entered = enter(cat, target, left, 1, work);
+    let entered = enter(cat, target, Some(left), work);
     entered.mask
 }
 
@@ -200,14 +198,14 @@ fn minimal(n: u32, left: u32, held: Held, own: u32, work: &mut [u32]) -> u32
     }
 }
 
-// Is a left side of any view of n members backed, by what the work words hold? 1 or 0.
-fn backed_bit(n: u32, left: u32, held: Held, work: &[u32]) -> u32
+// Is a left side of any view of n members backed, by what the work words hold?
+fn backed(n: u32, left: u32, held: Held, work: &[u32]) -> bool
     requires { (n ≤ column_bound) × (left < 2 ^ n) × Readable held n work.now }
     ensures { BackedBy n left held work.now result }
 {
     match held {
-        Held::Table => (work[left as usize] >> (n + 1)) % 2,
-        Held::Seeds => bit_at(work, power(n) + left),
+        Held::Table => (work[left as usize] >> (n + 1)) % 2 == 1,
+        Held::Seeds => bit_at(work, power(n) + left) == 1,
     }
 }
 
@@ -220,7 +218,7 @@ fn filter(n: u32, left: u32, held: Held, minimal: u32, work: &[u32]) -> u32
     if minimal == 0 {
         return 0;
     }
-    if backed_bit(n, left, held, work) == 1 {
+    if backed(n, left, held, work) {
         return undropped(n, minimal);
     }
     0

@@ -14,9 +14,10 @@ use Rattle.model.specs.Listing.{Listing, cells}
 use Rattle.model.specs.List.{first_code}
 use Rattle.model.specs.Reply.{Reply, reply_of, answered}
 use Rattle.model.specs.declared.Entry.{Entry}
-use Rattle.model.specs.declared.ListAnswer.TheVariants as answer
+use Rattle.std.specs.Prelude.{Result, Ok, Err, Some, None}
 use Rattle.model.specs.declared.Refusal.{Refusal}
 use Rattle.model.specs.declared.Refusal.TheVariants.{FileTooShort, TooFewWords, PastTheEnd, RunTooShort}
+use Rattle.model.proofs.Codes.{number_pos}
 use Rattle.model.proofs.Grounds.{or_else_first}
 use Rattle.model.proofs.Complete.{after_none}
 use Rattle.model.proofs.Calls.{passed_spent, written_spent, passed_end_at, written_end_at, call_few, call_past}
@@ -29,15 +30,13 @@ use Rattle.walk.specs.Walks.{First, Passes, cell_of}
 use Rattle.passing.specs.declared.Walk.{Walk}
 use Rattle.steps.specs.declared.Stepped.{Stepped}
 use Rattle.steps.specs.declared.Stepped.TheVariants.{Done}
-use Rattle.passing.specs.declared.Reached.TheVariants.{At, Stop}
 use Rattle.steps.proofs.Stepping.{kept_after}
 use Rattle.walk.proofs.Places.{drop_here, drop_inside}
 use Rattle.walk.proofs.Walks.{ahead_next, cell_here}
 
--- a code of the check that is not 0 is a refusal's number
-pub refusal_number : (cat : List ℕ) {k : ℕ} → k ≡ check_code cat → (k ≡ 0 → ⊥)
-    → (number FileTooShort ≤ k) × (k ≤ last_refusal)
-refusal_number cat e n = (omega arith, omega (arith, check_code_le cat))
+-- nothing is passed and nothing is to be put
+abbrev pub idle_at : ℕ → Result Stepped Refusal
+idle_at place = Ok (Done (record { place = place; passed = 0; count = 0 }))
 
 module _ (before : ℕ) (l : Listing) (place budget room : ℕ) (words : List ℕ) where
   abbrev ground : ℕ
@@ -45,7 +44,7 @@ module _ (before : ℕ) (l : Listing) (place budget room : ℕ) (words : List �
 
   -- a refusal that leaves the words as they are
   refused_at : (r : Refusal) → ground ≡ number r → (number r ≡ 0 → ⊥)
-      → (number r ≡ number RunTooShort → ⊥) → Began before l place budget room words (Done (answer.Refused r)) words
+      → (number r ≡ number RunTooShort → ⊥) → Began before l place budget room words (Err r) words
   unfolding due reply_of work_after
   refused_at r e n s =
       record {
@@ -56,11 +55,11 @@ module _ (before : ℕ) (l : Listing) (place budget room : ℕ) (words : List �
       }
 
   -- what comes before is refused, and is not 13
-  pub begin_refused : (k : ℕ) (r : Refusal) → k ≡ before → (k ≡ 0 → ⊥) → number r ≡ k → k < number RunTooShort
-      → Began before l place budget room words (Done (answer.Refused r)) words
+  pub begin_refused : (r : Refusal) → number r ≡ before → number r < number RunTooShort
+      → Began before l place budget room words (Err r) words
   unfolding first_code
-  begin_refused k r e n q small =
-      refused_at r (or_else_first _ (λ z. n (e ∙ z)) ∙ sym e ∙ sym q) (λ z. n (sym q ∙ z)) (λ z. omega arith)
+  begin_refused r e small =
+      refused_at r (or_else_first _ (λ z. number_pos r (e ∙ z)) ∙ sym e) (number_pos r) (λ z. omega arith)
 
   module _ (ok : before ≡ 0) where
     -- nothing comes before
@@ -68,14 +67,14 @@ module _ (before : ℕ) (l : Listing) (place budget room : ℕ) (words : List �
     after_check = after_none before ok (cells l) place budget room (length words)
 
     pub begin_few : length words < work_bound
-        → Began before l place budget room words (Done (answer.Refused TooFewWords)) words
+        → Began before l place budget room words (Err TooFewWords) words
     begin_few h =
         refused_at TooFewWords (after_check ∙ call_few (cells l) place budget room (length words) h)
         (λ z. omega arith) (λ z. omega arith)
 
     module _ (enough : work_bound ≤ length words) where
       pub begin_past : length (cells l) < place
-          → Began before l place budget room words (Done (answer.Refused PastTheEnd)) words
+          → Began before l place budget room words (Err PastTheEnd) words
       begin_past h =
           refused_at PastTheEnd
           (after_check ∙ call_past (cells l) place budget room (length words) enough (omega arith))
@@ -85,7 +84,7 @@ module _ (before : ℕ) (l : Listing) (place budget room : ℕ) (words : List �
       module _ (inside : place ≤ length (cells l)) (zeroed : List ℕ) (z : zeroed ≡ replicate (length words) 0) where
         idle : ground ≡ 0 → passed budget room (drop place (cells l)) ≡ 0
             → written budget room (drop place (cells l)) ≡ []
-            → Began before l place budget room words (Done (answer.Listed place 0 0)) zeroed
+            → Began before l place budget room words (idle_at place) zeroed
         unfolding due reply_of work_after
         idle e p w =
             record {
@@ -98,7 +97,7 @@ module _ (before : ℕ) (l : Listing) (place budget room : ℕ) (words : List �
               kept = z ∙ sym (if_eq_yes _ e);
             }
 
-        pub begin_spent : budget ≡ 0 → Began before l place budget room words (Done (answer.Listed place 0 0)) zeroed
+        pub begin_spent : budget ≡ 0 → Began before l place budget room words (idle_at place) zeroed
         begin_spent q =
             idle
             (after_check ∙ call_none (cells l) place budget room (length words) enough (omega arith)
@@ -107,7 +106,7 @@ module _ (before : ℕ) (l : Listing) (place budget room : ℕ) (words : List �
             (ap (λ (g : ℕ). written g room (drop place (cells l))) q ∙ written_spent room _)
 
         pub begin_end : place ≡ length (cells l)
-            → Began before l place budget room words (Done (answer.Listed place 0 0)) zeroed
+            → Began before l place budget room words (idle_at place) zeroed
         begin_end q =
             idle
             (after_check ∙ call_none (cells l) place budget room (length words) enough (omega arith)
@@ -154,9 +153,9 @@ module _ (before : ℕ) (l : Listing) (place budget room : ℕ) (words : List �
             ∙ ap₂ (λ (k n : ℕ). answered ((place + passed budget room (drop place (cells l))) ∷ k ∷ n ∷ []))
             (omega arith) (omega arith)
 
-        pub begin_short : (after : List ℕ) → Passes l w Stop after → length after ≡ length words → (zeroed : List ℕ)
+        pub begin_short : (after : List ℕ) → Passes l w None after → length after ≡ length words → (zeroed : List ℕ)
             → zeroed ≡ replicate (length after) 0
-            → Began before l place budget room words (Done (answer.Refused RunTooShort)) zeroed
+            → Began before l place budget room words (Err RunTooShort) zeroed
         unfolding due reply_of work_after
         begin_short after h same zeroed z =
             let e : ground ≡ number RunTooShort =
@@ -170,8 +169,8 @@ module _ (before : ℕ) (l : Listing) (place budget room : ℕ) (words : List �
                   z ∙ ap (λ (k : ℕ). replicate k 0) same ∙ sym (rw e (if_eq_no _ (λ q. omega arith) ∙ if_eq_yes _ refl));
             }
 
-        pub begin_walks : (v : Walk) (after : List ℕ) → Passes l w (At v) after → length after ≡ length words
-            → (s : Stepped) (now : List ℕ) → Went l v after s now → Began before l place budget room words s now
+        pub begin_walks : (v : Walk) (after : List ℕ) → Passes l w (Some v) after → length after ≡ length words
+            → (s : Stepped) (now : List ℕ) → Went l v after s now → Began before l place budget room words (Ok s) now
         unfolding due reply_of
         begin_walks v after h same s now g =
             let e : ground ≡ 0 =

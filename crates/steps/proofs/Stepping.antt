@@ -10,11 +10,10 @@ use Rattle.columns.proofs.Test.{if_eq_yes}
 use Rattle.model.specs.Calls.{written, work_after}
 use Rattle.model.specs.Listing.{Listing, width_of, cells}
 use Rattle.model.specs.declared.Entry.{Entry}
-use Rattle.model.specs.declared.ListAnswer.TheVariants as answer
+use Rattle.std.specs.Prelude.{Some, None, Ok}
 use Rattle.walk.specs.Meaning.{ahead, final, Good}
 use Rattle.walk.specs.Walks.{Same, Goes}
 use Rattle.passing.specs.declared.Walk.{Walk}
-use Rattle.passing.specs.declared.Reached.TheVariants.{At, Stop}
 use Rattle.walk.proofs.Places.{chosen_lt}
 use Rattle.steps.specs.Putting.{Puttable, put_from}
 use Rattle.steps.specs.Steps.{WordsBegun, WordsStepped, Went}
@@ -25,7 +24,7 @@ use Rattle.steps.proofs.Putting.{put_entries}
 -- words that a step left are as they must be since the call began
 pub kept_after : (l : Listing) (code : ℕ) (words mid : List ℕ) (s : Stepped) (now : List ℕ) → code ≡ 0
     → length mid ≡ length words
-    → WordsStepped l mid s now → WordsBegun l code words s now
+    → WordsStepped l mid s now → WordsBegun l code words (Ok s) now
 unfolding work_after
 kept_after l code words mid (Put e w) now z same m = (z, m)
 kept_after l code words mid (Done a) now z same m = m ∙ ap (λ (k : ℕ). replicate k 0) same ∙ sym (if_eq_yes _ z)
@@ -41,7 +40,7 @@ module _ (l : Listing) (w : Walk) (words : List ℕ) where
   stepping_begun g = record { good = g; same = record { put = refl; reply = refl }; length = refl }
 
   module _ (v : Walk) (now : List ℕ) (s : Stepping l w v words now) where
-    pub stepping_on : (u : Walk) (after : List ℕ) → Goes l v (At u) after → length after ≡ length now
+    pub stepping_on : (u : Walk) (after : List ℕ) → Goes l v (Some u) after → length after ≡ length now
         → Stepping l w u words after
     stepping_on u after g k =
         record {
@@ -51,8 +50,9 @@ module _ (l : Listing) (w : Walk) (words : List ℕ) where
         }
 
     -- nothing is left
-    pub step_done : (after : List ℕ) → Goes l v Stop after → (zeroed : List ℕ) → zeroed ≡ replicate (length after) 0
-        → length after ≡ length now → Went l w words (Done (answer.Listed v.place v.passed v.count)) zeroed
+    pub step_done : (after : List ℕ) → Goes l v None after → (zeroed : List ℕ) → zeroed ≡ replicate (length after) 0
+        → length after ≡ length now → Went l w words (Done (record { place = v.place; passed = v.passed; count = v.count }))
+        zeroed
     step_done after g zeroed z k =
         record {
           put = sym g.put ∙ s.same.put;

@@ -1,8 +1,8 @@
 // Not for callers: the steps of a listing call, from entry to entry: `begin` and `step` decide everything, keep the
 // work words and look at no record.
 // Relies on `walk` for going from set to set, on `passing` for the walk's type, on `table` for the right that a bit
-// stands for, on `grounds` for the check's grounds, on `layout` for the number of sets and on `refusals` for the
-// refusal that has a number and for the work words. Called by `listing`.
+// stands for, on `grounds` for the check's grounds, on `layout` for the number of sets and on `refusals` for the work
+// words. Called by `listing`.
 #![tactic(auto)]
 
 mod put;
@@ -12,12 +12,11 @@ ghost use Rattle.model.specs.Listing.{ordinary};
 ghost use Rattle.walk.specs.Meaning.{Good};
 ghost use Rattle.steps.specs.Steps.{Began, Went};
 
-use grounds::check_code;
 use layout::sets;
-use model::{Entry, ListAnswer, Refusal};
-use passing::{Reached, Walk};
+use model::{Entry, Progress, Refusal};
+use passing::Walk;
 use put::put;
-use refusals::{refusal, zero_words};
+use refusals::zero_words;
 use walk::locate::first;
 use walk::onward::{onward, pass_first};
 
@@ -25,7 +24,7 @@ use walk::onward::{onward, pass_first};
 #[derive(Clone, Copy)]
 pub enum Stepped {
     Put(Entry, Walk),
-    Done(ListAnswer),
+    Done(Progress),
 }
 
 // One step: the next entry, or the answer.
@@ -36,10 +35,10 @@ pub fn step(cat: &[u8], w: Walk, work: &mut [u32]) -> Stepped
     let mut v = w;
     while v.pending == 0 {
         match onward(cat, v, work) {
-            Reached::At(next) => v = next,
-            Reached::Stop => {
+            Some(next) => v = next,
+            None => {
                 zero_words(work);
-                return Stepped::Done(ListAnswer::Listed {
+                return Stepped::Done(Progress {
                     place: v.place,
                     passed: v.passed,
                     count: v.count,
@@ -51,44 +50,39 @@ pub fn step(cat: &[u8], w: Walk, work: &mut [u32]) -> Stepped
 }
 
 // The first step of a call: a refusal, the first entry, or the answer.
-pub fn begin(cat: &[u8], place: u32, budget: u32, room: usize, work: &mut [u32]) -> Stepped
+pub fn begin(
+    cat: &[u8],
+    place: u32,
+    budget: u32,
+    room: usize,
+    work: &mut [u32],
+) -> Result<Stepped, Refusal>
     ensures { Began (check_code cat.now) (ordinary cat.now) place budget room
         work.old result
         work.new }
 {
-    let code = check_code(cat);
-    if code != 0 {
-        return Stepped::Done(ListAnswer::Refused(refusal(code)));
-    }
+    grounds::check(cat)?;
     if work.len() < model::WORK_BOUND {
-        return Stepped::Done(ListAnswer::Refused(Refusal::TooFewWords));
+        return Err(Refusal::TooFewWords);
     }
     let last = sets(cat);
     if last < place {
-        return Stepped::Done(ListAnswer::Refused(Refusal::PastTheEnd));
+        return Err(Refusal::PastTheEnd);
     }
-    if budget == 0 {
+    if budget == 0 || place == last {
         zero_words(work);
-        return Stepped::Done(ListAnswer::Listed {
-            place: place,
+        return Ok(Stepped::Done(Progress {
+            place,
             passed: 0,
             count: 0,
-        });
-    }
-    if place == last {
-        zero_words(work);
-        return Stepped::Done(ListAnswer::Listed {
-            place: place,
-            passed: 0,
-            count: 0,
-        });
+        }));
     }
     let w = first(cat, place, budget, room);
     match pass_first(cat, w, work) {
-        Reached::At(v) => step(cat, v, work),
-        Reached::Stop => {
+        Some(v) => Ok(step(cat, v, work)),
+        None => {
             zero_words(work);
-            Stepped::Done(ListAnswer::Refused(Refusal::RunTooShort))
+            Err(Refusal::RunTooShort)
         }
     }
 }

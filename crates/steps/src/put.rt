@@ -13,16 +13,18 @@ pub fn put(w: Walk) -> Stepped
     ensures { result ≡ put_from w }
 {
     let m = w.pending;
-    let k = u32::trailing_zeros(m);
+    let k = m.trailing_zeros();
     let right = table::right_at(w.members, k);
-    let mut v = w;
-    v.pending = m - power(k);
+    let e = Entry {
+        target: w.target as u8,
+        right: right as u8,
+        left: w.left as u16,
+    };
     Stepped::Put(
-        Entry {
-            target: w.target as u8,
-            right: right as u8,
-            left: w.left as u16,
+        e,
+        Walk {
+            pending: m - power(k),
+            ..w
         },
-        v,
     )
 }

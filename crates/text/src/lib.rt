@@ -66,7 +66,8 @@ pub fn put_entry(out: &mut [u8], at: usize, e: Entry) -> usize
     put_right(out, next, e.right)
 }
 
-// Writes all of the bytes. After an error the writer has taken some of them, from the first on.
+// Writes all of the bytes. After an error the writer has taken some of them, from the first on: of that the library's
+// `write_all` promises nothing, and clause `torn` here and of `write` needs it.
 fn write_all<W: Write>(to: &mut W, bytes: &[u8]) -> io::Result<()>
     ensures whole { OnOk result (Appends (W.contents to.old) (W.contents to.new) bytes.now) }
     ensures torn { OnErr result (AppendsFirst (W.contents to.old) (W.contents to.new) bytes.now) }

@@ -11,11 +11,11 @@ use lib.Pow.{pow_pos}
 use lib.ListN.{length, get_or, drop}
 use lib.Seq.{drop-append-le}
 use lib.Count.{ones, ones_in}
+use Rattle.std.specs.Prelude.{Some, None}
 use Rattle.columns.specs.Bound.{column_bound}
 use Rattle.columns.specs.Set.{set_of}
 use Rattle.columns.specs.Order.{in_order, by_size_from, of_size, of_size_from, next_of}
 use Rattle.columns.specs.declared.ColumnSet.{ColumnSet}
-use Rattle.columns.specs.declared.SetOrNone.TheVariants.{Set, Nothing}
 use Rattle.columns.proofs.Order.{drop_in_order, get_d_in_order_lt, next_at, next_at_last}
 use Rattle.columns.proofs.Pascal.{length_in_order, from_yes}
 use Rattle.model.specs.Listing.{Listing, width_of, rights_of, entries_of, cells_of, cells_from, cells}
@@ -122,7 +122,7 @@ module _ (l : Listing) where
 
   module _ (t x place : ℕ) (p : SetBefore l t x place) (few : width_of l t ≤ column_bound) where
     -- the next set stands at the place: the next one of the target, or the empty set of the next target
-    pub next_within : (y : ℕ) → next_of (width_of l t) x ≡ Set (set_of y) → SetAt l t y place
+    pub next_within : (y : ℕ) → next_of (width_of l t) x ≡ Some (set_of y) → SetAt l t y place
     next_within y e = at (le_or_lt (2 ^ width_of l t) (suc p.index))
       where
         same : next_of (width_of l t) x ≡ next_of (width_of l t) (get_or (in_order (width_of l t)) p.index 0)
@@ -145,7 +145,7 @@ module _ (l : Listing) where
               cells = p.cells;
             }
 
-    last_of : next_of (width_of l t) x ≡ Nothing → suc p.index ≡ 2 ^ width_of l t
+    last_of : next_of (width_of l t) x ≡ None → suc p.index ≡ 2 ^ width_of l t
     last_of e = at (le_or_lt (2 ^ width_of l t) (suc p.index))
       where
         same : next_of (width_of l t) x ≡ next_of (width_of l t) (get_or (in_order (width_of l t)) p.index 0)
@@ -158,7 +158,7 @@ module _ (l : Listing) where
             let z : ◌≡◌ {A = ℕ} 0 1 = cc in
             absurd (omega arith)
 
-    pub next_target : next_of (width_of l t) x ≡ Nothing → suc t < l.targets → SetAt l (suc t) 0 place
+    pub next_target : next_of (width_of l t) x ≡ None → suc t < l.targets → SetAt l (suc t) 0 place
     next_target e h =
         record {
           index = 0;
@@ -167,7 +167,7 @@ module _ (l : Listing) where
           cells = p.cells ∙ cells_last t (suc p.index) (last_of e) ∙ cells_target (suc t) h;
         }
 
-    pub next_none : next_of (width_of l t) x ≡ Nothing → l.targets ≤ suc t → drop place (cells l) ≡ []
+    pub next_none : next_of (width_of l t) x ≡ None → l.targets ≤ suc t → drop place (cells l) ≡ []
     unfolding cells_from
     next_none e h =
         let z : l.targets - suc t ≡ 0 = omega arith in

@@ -7,14 +7,13 @@ use native.Mathlib.Decide.{dec_lt}
 use native.Mathlib.Omega.{arith}
 use lib.Count.{ones, ones-le}
 use lib.ListN.{length, drop, get_or, length-append}
+use Rattle.std.specs.Prelude.{Option, Some, None}
 use Rattle.columns.specs.Bound.{column_bound}
 use Rattle.columns.proofs.Test.{if_lt_yes, if_lt_no}
 use Rattle.columns.proofs.Membership.{members_own}
 use Rattle.columns.specs.Order.{in_order, next_of}
 use Rattle.columns.specs.Set.{members_of}
 use Rattle.columns.specs.declared.ColumnSet.{ColumnSet}
-use Rattle.columns.specs.declared.SetOrNone.{SetOrNone}
-use Rattle.columns.specs.declared.SetOrNone.TheVariants.{Set, Nothing}
 use Rattle.model.specs.Bounds.{table_bound, work_bound}
 use Rattle.model.specs.Calls.{passed, written}
 use Rattle.model.specs.Listing.{Listing, width_of, cells, Bounded}
@@ -26,8 +25,6 @@ use Rattle.model.proofs.Short.{places_few}
 use Rattle.passing.specs.Pass.{right_bound, passed_on, passed_by, Passable}
 use Rattle.passing.specs.declared.Held.{Held}
 use Rattle.passing.specs.declared.Walk.{Walk}
-use Rattle.passing.specs.declared.Reached.{Reached}
-use Rattle.passing.specs.declared.Reached.TheVariants.{At, Stop}
 use Rattle.rights.specs.Ready.{Ready}
 use Rattle.rights.specs.Rights.{listed_rights, entries_of_mask}
 use Rattle.rights.proofs.Mask.{mask_lt, entries_count, entries_none, entries_of_rights}
@@ -159,7 +156,7 @@ module _ (l : Listing) (w : Walk) (words : List ℕ) (f : Fresh l w words) where
           answers (omega arith) (omega arith) (omega (arith, cell_size))
 
       pass_at : (after : List ℕ) → (0 < w.budget - 1 → Ready l w.target w.held w.own after)
-          → length after ≡ length words → Passes l w (At (passed_on w mask)) after
+          → length after ≡ length words → Passes l w (Some (passed_on w mask)) after
       pass_at after ready same = (
         record {
           sound =
@@ -193,15 +190,15 @@ module _ (l : Listing) (w : Walk) (words : List ℕ) (f : Fresh l w words) where
 
     -- what passing the set answers is right, if the words are ready wherever more sets can be passed
     pub passes_by : (after : List ℕ) → (0 < w.budget - 1 → Ready l w.target w.held w.own after)
-        → length after ≡ length words → (r : Reached) → r ≡ passed_by w mask → Passes l w r after
+        → length after ≡ length words → (r : Option Walk) → r ≡ passed_by w mask → Passes l w r after
     unfolding passed_by
     passes_by after ready same r e = at (dec_lt w.room (ones mask))
       where
         at : Dec (w.room < ones mask) → Passes l w r after
-        at (yes h) = subst (λ (s : Reached). Passes l w s after) (sym (e ∙ if_lt_yes _ h)) (pass_full h)
+        at (yes h) = subst (λ (s : Option Walk). Passes l w s after) (sym (e ∙ if_lt_yes _ h)) (pass_full h)
         at (no h) =
             let fits : ones mask ≤ w.room = omega arith in
-            subst (λ (s : Reached). Passes l w s after) (sym (e ∙ if_lt_no Stop fits)) (pass_at fits after ready same)
+            subst (λ (s : Option Walk). Passes l w s after) (sym (e ∙ if_lt_no None fits)) (pass_at fits after ready same)
 
 -- a walk that differs only in its set, where nothing is pending
 module _ (l : Listing) (w : Walk) (nothing : w.pending ≡ 0) where
@@ -242,14 +239,14 @@ module _ (l : Listing) (w : Walk) (words : List ℕ) (f : Fresh l w words) {v : 
       → Ready l v.target v.held v.own after
   entered_ready {after} ready = subst (λ (u : Walk). Ready l u.target u.held u.own after) (sym is) ready
 
-  moved_passes : (r : Reached) (after : List ℕ)
+  moved_passes : (r : Option Walk) (after : List ℕ)
       → Passes l (moved_to w w.target w.left w.members held own) r after → Passes l w r after
-  moved_passes (At u) after (g, s, k, h) =
+  moved_passes (Some u) after (g, s, k, h) =
       let same = moved_same l w f.pending w.target w.left w.members held own in
       (g, record { put = s.put ∙ same.put; reply = s.reply ∙ same.reply }, k, h)
-  moved_passes Stop after h = h
+  moved_passes None after h = h
 
-  pub entered_passes : (r : Reached) (after : List ℕ) → Passes l v r after → Passes l w r after
+  pub entered_passes : (r : Option Walk) (after : List ℕ) → Passes l v r after → Passes l w r after
   entered_passes r after h = moved_passes r after (subst (λ (u : Walk). Passes l u r after) is h)
 
 -- a walk whose set is passed, and nothing of it is pending
@@ -261,7 +258,7 @@ module _ (l : Listing) (w : Walk) (words : List ℕ) (g : Good l w words) (nothi
   good_few = g.sound.bounded.members w.target good_target
 
   -- what the set answers as its next is the next of its number
-  next_of_lem : {r : SetOrNone} → next_of w.members (members_of w.left) ≡ r → next_of (width_of l w.target) w.left
+  next_of_lem : {r : Option ColumnSet} → next_of w.members (members_of w.left) ≡ r → next_of (width_of l w.target) w.left
       ≡ r
   next_of_lem e =
       let s = g.stands in
@@ -282,30 +279,30 @@ module _ (l : Listing) (w : Walk) (words : List ℕ) (g : Good l w words) (nothi
         count = refl;
       }
 
-  pub follow_within : (y : ColumnSet) → 0 < w.budget → next_of w.members (members_of w.left) ≡ Set y
-      → Follows l w (At (moved_to w w.target y.bits w.members w.held w.own)) words
+  pub follow_within : (y : ColumnSet) → 0 < w.budget → next_of w.members (members_of w.left) ≡ Some y
+      → Follows l w (Some (moved_to w w.target y.bits w.members w.held w.own)) words
   follow_within y some e =
       moved_after w.target y.bits w.members w.held w.own words some
       (next_within l w.target w.left w.place g.stands good_few y.bits (next_of_lem e))
       g.sound.members (g.ready some) refl
 
   pub follow_target : (n : ℕ) (held : Held) (own t : ℕ) (after : List ℕ) → 0 < w.budget
-      → next_of w.members (members_of w.left) ≡ Nothing → t ≡ w.target + 1 → t < l.targets → n ≡ width_of l t
-      → Ready l t held own after → length after ≡ length words → Follows l w (At (moved_to w t 0 n held own)) after
+      → next_of w.members (members_of w.left) ≡ None → t ≡ w.target + 1 → t < l.targets → n ≡ width_of l t
+      → Ready l t held own after → length after ≡ length words → Follows l w (Some (moved_to w t 0 n held own)) after
   follow_target n held own t after some e q h v ready same =
       moved_after t 0 n held own after some
       (subst (λ (i : ℕ). SetAt l i 0 w.place) (sym (q ∙ add-one w.target))
       (next_target l w.target w.left w.place g.stands good_few (next_of_lem e) (omega arith)))
       v ready same
 
-  pub follow_none : (after : List ℕ) → next_of w.members (members_of w.left) ≡ Nothing → l.targets ≤ w.target + 1
-      → Follows l w Stop after
+  pub follow_none : (after : List ℕ) → next_of w.members (members_of w.left) ≡ None → l.targets ≤ w.target + 1
+      → Follows l w None after
   follow_none after e h =
       next_none l w.target w.left w.place g.stands good_few
       (next_of_lem e) (omega arith)
 
   -- going on by way of the next set
-  pub goes_full : (v : Walk) (mid after : List ℕ) → After l w v mid → Passes l v Stop after → Goes l w Stop after
+  pub goes_full : (v : Walk) (mid after : List ℕ) → After l w v mid → Passes l v None after → Goes l w None after
   goes_full v mid after a h =
       let s = fresh_full l v mid a.fresh h in
       record {
@@ -313,16 +310,16 @@ module _ (l : Listing) (w : Walk) (words : List ℕ) (g : Good l w words) (nothi
         reply = sym a.same.reply ∙ s.reply ∙ answers a.place a.passed a.count;
       }
 
-  pub goes_at : (v u : Walk) (mid after : List ℕ) → After l w v mid → Passes l v (At u) after → Goes l w (At u) after
+  pub goes_at : (v u : Walk) (mid after : List ℕ) → After l w v mid → Passes l v (Some u) after → Goes l w (Some u) after
   goes_at v u mid after a h = (
     h.0,
     record { put = h.1.put ∙ a.same.put; reply = h.1.reply ∙ a.same.reply },
     omega (arith, h.2, a.budget),
   )
 
-  pub goes : (v : Walk) (r : Reached) (mid after : List ℕ) → After l w v mid → Passes l v r after → Goes l w r after
-  goes v (At u) mid after a h = goes_at v u mid after a h
-  goes v Stop mid after a h = goes_full v mid after a h
+  pub goes : (v : Walk) (r : Option Walk) (mid after : List ℕ) → After l w v mid → Passes l v r after → Goes l w r after
+  goes v (Some u) mid after a h = goes_at v u mid after a h
+  goes v None mid after a h = goes_full v mid after a h
 
 -- the first walk of a call
 pub first_walk : (l : Listing) (words : List ℕ) (place budget room t i x n : ℕ) (held : Held) (own : ℕ) → Bounded l

@@ -1,12 +1,10 @@
 -- The contracts of finding the set at a place, passing a set and going on to the next.
-use Rattle.std.specs.Prelude.{ℕ, ◌≤◌, ◌<◌, ◌≡◌, List, [], ◌∷◌, length, drop}
+use Rattle.std.specs.Prelude.{ℕ, ◌≤◌, ◌<◌, ◌≡◌, List, [], ◌∷◌, length, drop, Option, Some, None}
 use Rattle.model.specs.Listing.{Listing, cells, rights_of, entries_of}
 use Rattle.model.specs.Reply.{answered}
 use Rattle.model.specs.declared.Entry.{Entry}
 use Rattle.passing.specs.declared.Held.{Held}
 use Rattle.passing.specs.declared.Walk.{Walk}
-use Rattle.passing.specs.declared.Reached.{Reached}
-use Rattle.passing.specs.declared.Reached.TheVariants.{At, Stop}
 use Rattle.rights.specs.Ready.{Ready}
 use Rattle.walk.specs.Places.{SetAt}
 use Rattle.walk.specs.Meaning.{ahead, final, Sound, Good}
@@ -54,10 +52,10 @@ moved_to w target left members held own =
     }
 
 -- a set is passed, or its entries do not fit
-abbrev pub Passes : Listing → Walk → Reached → List ℕ → Type 0
-Passes l w (At v) words =
+abbrev pub Passes : Listing → Walk → Option Walk → List ℕ → Type 0
+Passes l w (Some v) words =
     Good l v words × Same l w v × (v.budget < w.budget) × (length (cell_of l w) ≤ w.room)
-Passes l w Stop words = w.room < length (cell_of l w)
+Passes l w None words = w.room < length (cell_of l w)
 
 -- a walk is at the set after that of another
 pub record After (l : Listing) (w v : Walk) (words : List ℕ) : Type 0 where
@@ -70,9 +68,9 @@ pub record After (l : Listing) (w v : Walk) (words : List ℕ) : Type 0 where
   pub count : v.count ≡ w.count
 
 -- the walk is at the next set, or no set is left
-abbrev pub Follows : Listing → Walk → Reached → List ℕ → Type 0
-Follows l w (At v) words = After l w v words
-Follows l w Stop words = drop w.place (cells l) ≡ []
+abbrev pub Follows : Listing → Walk → Option Walk → List ℕ → Type 0
+Follows l w (Some v) words = After l w v words
+Follows l w None words = drop w.place (cells l) ≡ []
 
 -- nothing is ahead, and the answer is where the walk stands
 pub record Stopped (l : Listing) (w : Walk) : Type 0 where
@@ -80,6 +78,6 @@ pub record Stopped (l : Listing) (w : Walk) : Type 0 where
   pub reply : final l w ≡ answered (w.place ∷ w.passed ∷ w.count ∷ [])
 
 -- the next set is passed, or the walk stops
-abbrev pub Goes : Listing → Walk → Reached → List ℕ → Type 0
-Goes l w (At v) words = Good l v words × Same l w v × (v.budget < w.budget)
-Goes l w Stop words = Stopped l w
+abbrev pub Goes : Listing → Walk → Option Walk → List ℕ → Type 0
+Goes l w (Some v) words = Good l v words × Same l w v × (v.budget < w.budget)
+Goes l w None words = Stopped l w

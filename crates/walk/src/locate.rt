@@ -10,7 +10,7 @@ ghost use Rattle.walk.specs.Places.{Found};
 ghost use Rattle.walk.specs.Walks.{First};
 
 use bits::power;
-use columns::{ColumnSet, SetOrNone};
+use columns::ColumnSet;
 use passing::{Held, Walk};
 
 // A target, and an index in the order of its sets.
@@ -26,19 +26,15 @@ fn find(cat: &[u8], place: u32) -> Spot
     requires place_bound { place < sets_of cat.now }
     ensures { Found (ordinary cat.now) place result.target result.index }
 {
-    let mut target: u32 = 0;
     let mut index = place;
-    loop {
+    for target in 0..u32::from(layout::tables(cat)) {
         let here = power(layout::visible(cat, target));
         if index < here {
-            return Spot {
-                target: target,
-                index: index,
-            };
+            return Spot { target, index };
         }
         index -= here;
-        target += 1;
     }
+    unreachable!()
 }
 
 // The set at an index of the order of n columns.
@@ -47,10 +43,7 @@ fn set_at(n: u32, index: u32) -> u32
     requires index_bound { index < 2 ^ n }
     ensures { result ≡ get_or (in_order n) index 0 }
 {
-    match ColumnSet::at(n, index) {
-        SetOrNone::Set(s) => s.bits,
-        SetOrNone::Nothing => ColumnSet::EMPTY.bits,
-    }
+    ColumnSet::at(n, index).unwrap().bits
 }
 
 // The walk at the set that stands at a place. What it says of the work words and of rights means nothing yet.
@@ -66,14 +59,14 @@ pub fn first(cat: &[u8], place: u32, budget: u32, room: usize) -> Walk
     let n = layout::visible(cat, target);
     let left = set_at(n, s.index);
     Walk {
-        target: target,
-        left: left,
+        target,
+        left,
         members: n,
         held: Held::Table,
         own: 0,
-        place: place,
-        budget: budget,
-        room: room,
+        place,
+        budget,
+        room,
         passed: 0,
         count: 0,
         pending: 0,

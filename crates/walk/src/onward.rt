@@ -6,19 +6,18 @@ ghost use Rattle.rights.specs.Ready.{Ready};
 ghost use Rattle.walk.specs.Meaning.{Good};
 ghost use Rattle.walk.specs.Walks.{Fresh, moved_to, Passes, Follows, Goes};
 
-use columns::{ColumnSet, SetOrNone};
-use passing::{Reached, Walk, passed};
+use columns::ColumnSet;
+use passing::{Walk, passed};
 use rights::Entered;
 
 // Passes the walk's set, whose rights the work words tell.
-fn pass(cat: &[u8], w: Walk, work: &mut [u32]) -> Reached
+fn pass(cat: &[u8], w: Walk, work: &mut [u32]) -> Option<Walk>
     requires accepted { Accepted cat.now }
     requires fresh { Fresh (ordinary cat.now) w work.old }
     requires ready { Ready (ordinary cat.now) w.target w.held w.own work.old }
     ensures { Passes (ordinary cat.now) w result work.new }
 {
-    let held = w.held;
-    let mask = rights::rights(cat, w.target, w.members, w.left, held, w.own, work);
+    let mask = rights::rights(cat, w.target, w.members, w.left, w.held, w.own, work);
     passed(w, mask)
 }
 
@@ -26,25 +25,19 @@ fn pass(cat: &[u8], w: Walk, work: &mut [u32]) -> Reached
 fn entering(w: Walk, target: u32, left: u32, members: u32, entered: Entered) -> Walk
     ensures { result ≡ moved_to w target left members entered.held entered.mask }
 {
-    let held = entered.held;
     Walk {
-        target: target,
-        left: left,
-        members: members,
-        held: held,
+        target,
+        left,
+        members,
+        held: entered.held,
         own: entered.mask,
-        place: w.place,
-        budget: w.budget,
-        room: w.room,
-        passed: w.passed,
-        count: w.count,
-        pending: w.pending,
+        ..w
     }
 }
 
 // Passes the first set of a call: by itself where it is the only one that can be passed, and else with the words made
 // ready for its target.
-pub fn pass_first(cat: &[u8], w: Walk, work: &mut [u32]) -> Reached
+pub fn pass_first(cat: &[u8], w: Walk, work: &mut [u32]) -> Option<Walk>
     requires accepted { Accepted cat.now }
     requires fresh { Fresh (ordinary cat.now) w work.old }
     ensures { Passes (ordinary cat.now) w result work.new }
@@ -55,13 +48,12 @@ pub fn pass_first(cat: &[u8], w: Walk, work: &mut [u32]) -> Reached
     }
     let entered = rights::prepare(cat, w.target, work);
     let v = entering(w, w.target, w.left, w.members, entered);
-    let held = v.held;
-    let mask = rights::rights(cat, v.target, v.members, v.left, held, v.own, work);
+    let mask = rights::rights(cat, v.target, v.members, v.left, v.held, v.own, work);
     passed(v, mask)
 }
 
 // The walk at the next set: of the same target, or the empty set of the next target.
-fn following(cat: &[u8], w: Walk, work: &mut [u32]) -> Reached
+fn following(cat: &[u8], w: Walk, work: &mut [u32]) -> Option<Walk>
     requires accepted { Accepted cat.now }
     requires good { Good (ordinary cat.now) w work.old }
     requires pending_value { w.pending ≡ 0 }
@@ -70,36 +62,30 @@ fn following(cat: &[u8], w: Walk, work: &mut [u32]) -> Reached
 {
     let here = ColumnSet { bits: w.left };
     match here.next(w.members) {
-        SetOrNone::Set(s) => {
-            let mut v = w;
-            v.left = s.bits;
-            Reached::At(v)
-        }
-        SetOrNone::Nothing => {
+        Some(s) => { Some(Walk { left: s.bits, ..w }) }
+        None => {
             let target = w.target + 1;
             let n = layout::tables(cat) as u32;
             if n <= target {
-                return Reached::Stop;
+                return None;
             }
             let entered = rights::prepare(cat, target, work);
             let members = layout::visible(cat, target);
-            Reached::At(entering(w, target, ColumnSet::EMPTY.bits, members, entered))
+            Some(entering(w, target, ColumnSet::EMPTY.bits, members, entered))
         }
     }
 }
 
 // Passes the next set, if there is budget and a set and its entries fit.
-pub fn onward(cat: &[u8], w: Walk, work: &mut [u32]) -> Reached
+pub fn onward(cat: &[u8], w: Walk, work: &mut [u32]) -> Option<Walk>
     requires accepted { Accepted cat.now }
     requires good { Good (ordinary cat.now) w work.old }
     requires pending_value { w.pending ≡ 0 }
     ensures { Goes (ordinary cat.now) w result work.new }
 {
     if w.budget == 0 {
-        return Reached::Stop;
+        return None;
     }
-    match following(cat, w, work) {
-        Reached::At(v) => pass(cat, v, work),
-        Reached::Stop => Reached::Stop,
-    }
+    let v = following(cat, w, work)?;
+    pass(cat, v, work)
 }

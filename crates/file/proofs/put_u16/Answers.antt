@@ -1,11 +1,10 @@
--- `file::put_u16` meets its contract: two stores.
-use native.Mathlib.Omega.{arith}
-use lib.ListN.{length-set}
-use Rattle.file.proofs.Stores.{stores_two}
+-- `file::put_u16` meets its contract: the two lowest bytes, stored at i.
+use mathlib.Core.Path.{refl, ap, ◌∙◌}
+use lib.ListN.{take}
+use Rattle.model.specs.Bytes.{bytes2}
+use Rattle.file.proofs.Stores.{stores}
 use Rattle.file.proofs.put_u16.Goals as goal
 
-pub bounds-out-i-2 : goal.bounds-out-i-2
-bounds-out-i-2 c = simp length-set (omega arith)
-
 pub returns : goal.returns
-returns c = stores_two _ _ _ c.low.ensures c.low-2.ensures
+unfolding bytes2
+returns c = stores _ _ _ (bytes2 c.args.x) (c.copy_from_slice.ensures.after ∙ ap (take 2) c.to_le_bytes.ensures) refl c.requires

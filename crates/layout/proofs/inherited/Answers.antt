@@ -3,10 +3,6 @@ use native.Mathlib.Omega.{arith}
 use Rattle.model.specs.Catalogue.{inherited}
 use Rattle.layout.proofs.inherited.Goals as goal
 
-pub returns-then-own-all : goal.returns-then-own-all
-unfolding inherited
-returns-then-own-all c = omega arith
-
 pub returns : goal.returns
 unfolding inherited
 returns c = omega arith

@@ -1,5 +1,4 @@
 -- `put_head` meets its contract: seven words, one behind the other. Assumes nothing.
-use borrow.Author.Rules.{rules}
 use Rattle.page_lines.proofs.Parts.{puts_head}
 use Rattle.page_lines.proofs.put_head.Goals as goal
 

@@ -1,5 +1,4 @@
 -- `put_line` meets its contract: an entry and a line feed, one behind the other. Assumes nothing.
-use borrow.Author.Rules.{rules}
 use Rattle.page_lines.proofs.Parts.{puts_line}
 use Rattle.page_lines.proofs.put_line.Goals as goal
 

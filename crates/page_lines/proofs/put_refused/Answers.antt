@@ -1,5 +1,4 @@
 -- `put_refused` meets its contract: three words, one behind the other. Assumes nothing.
-use borrow.Author.Rules.{rules}
 use Rattle.page_lines.proofs.Parts.{puts_refused}
 use Rattle.page_lines.proofs.put_refused.Goals as goal
 

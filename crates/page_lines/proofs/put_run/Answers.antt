@@ -1,29 +1,13 @@
 -- The answers of `page_lines::put_run`.
-use Prim.Native.Nat.{ℕ, ◌-◌}
-use mathlib.Core.Path.{◌≡◌, ap}
-use native.Mathlib.Omega.{arith}
-use lib.ListN.{take}
-use borrow.Author.Rules.{rules}
-use Rattle.model.specs.Text.{lines_of}
-use Rattle.text.proofs.Puts.{puts_same}
-use Rattle.page_lines.proofs.Parts.{puts_no_line, puts_line_more}
+use Rattle.page_lines.proofs.Parts.{puts_no_line, puts_line_more, puts_all}
 use Rattle.page_lines.proofs.put_run.Goals as goal
 
-pub loop-i-init : goal.loop-i-init
-loop-i-init c = (search rules, search rules, search rules, puts_no_line c.args.filled.run _ _)
+pub loop-e-init : goal.loop-e-init
+loop-e-init c = puts_no_line c.args.run.now _ _
 
-pub loop-i-preserved : goal.loop-i-preserved
-loop-i-preserved c = (
-  search rules,
-  search rules,
-  search rules,
-  puts_line_more c.args.filled.run
-      c.loop-i.i _ (omega arith)
-      c.loop-i.invariant.3 c.put_line-next.ensures,
-)
+pub loop-e-preserved : goal.loop-e-preserved
+loop-e-preserved c =
+    puts_line_more c.args.run.now c.loop-e.e-index _ c.loop-e-test.true c.loop-e.invariant c.put_line-next.ensures
 
 pub returns : goal.returns
-returns c =
-    let all : c.loop-i.i ≡ c.args.count = omega arith in
-    puts_same (ap (λ (k : ℕ). lines_of (take k c.args.filled.run)) all)
-    c.loop-i.invariant.3
+returns c = puts_all c.args.run.now c.loop-e.e-index c.loop-e-test.false c.loop-e.invariant

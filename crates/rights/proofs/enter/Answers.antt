@@ -2,6 +2,8 @@
 use Prim.Native.Nat.{ℕ, ◌^◌, ◌<◌}
 use mathlib.Core.Path.{sym, subst}
 use native.Mathlib.Omega.{arith}
+use Rattle.std.proofs.lemmas.Option.{MatchOption-at_some}
+use Rattle.model.specs.Catalogue.{visible}
 use Rattle.model.specs.Listing.{ordinary}
 use Rattle.model.proofs.Check.{accepted_visible, accepted_rows}
 use Rattle.rights.proofs.Held.{own_fits, keyed_rows, filtered, alone_rights}
@@ -18,7 +20,7 @@ minimal_alone-minimal-requires c =
         c.rows-end.ensures,
         accepted_rows cat s.requires.accepted s.args.target s.requires.target_bound,
       );
-      x_bound = subst (λ (n : ℕ). s.args.left < 2 ^ n) (sym e) s.requires.left_bound.0;
+      x_bound = subst (λ (n : ℕ). c.in-Some.left < 2 ^ n) (sym e) (MatchOption-at_some Unit (λ x. x < 2 ^ visible c.args.cat.now c.args.target) _ c.in-Some.is c.requires.left_bound);
       own_bound = own_fits _ _ e c.own_rights-own.ensures;
     }
 
@@ -29,22 +31,19 @@ filter_alone-mask-requires c =
     record {
       accepted = s.requires.accepted;
       target_bound = s.requires.target_bound;
-      n_value = (e, subst (λ (n : ℕ). s.args.left < 2 ^ n) (sym e) s.requires.left_bound.0);
+      n_value = (e, subst (λ (n : ℕ). c.in-Some.left < 2 ^ n) (sym e) (MatchOption-at_some Unit (λ x. x < 2 ^ visible c.args.cat.now c.args.target) _ c.in-Some.is c.requires.left_bound));
     }
 
-pub returns-then-sets-eq1 : goal.returns-then-sets-eq1
-returns-then-sets-eq1 c =
-    let t = c in
-    let s = t in record {
-      mask_value = λ one.
-          alone_rights (ordinary s.args.cat.now) s.args.target
-          (filtered s.args.cat.now s.args.target s.requires.accepted s.requires.target_bound s.requires.left_bound.0)
-          t.own_rights-own.ensures
-          (keyed_rows _ _ t.rows-end.ensures t.lay_all.ensures)
-          c.minimal_alone-minimal.ensures
-          c.filter_alone-mask.ensures;
-      ready = λ more. absurd (more c.if-sets-eq1.true);
-    }
+pub returns-in-Some : goal.returns-in-Some
+returns-in-Some c =
+    rw c.in-Some.is (
+    alone_rights (ordinary c.args.cat.now) c.args.target
+    (filtered c.args.cat.now c.args.target c.requires.accepted c.requires.target_bound
+    (MatchOption-at_some Unit (λ x. x < 2 ^ visible c.args.cat.now c.args.target) _ c.in-Some.is c.requires.left_bound))
+    c.own_rights-own.ensures
+    (keyed_rows _ _ c.rows-end.ensures c.lay_all.ensures)
+    c.minimal_alone-minimal.ensures
+    c.filter_alone-mask.ensures)
 
 pub fill-held-requires : goal.fill-held-requires
 fill-held-requires c =
@@ -55,19 +54,14 @@ fill-held-requires c =
       target_bound = s.requires.target_bound;
       n_value = (
         e,
-        s.requires.left_bound.1,
+        s.requires.work_bound_in_bounds,
         keyed_rows _ _ t.rows-end.ensures t.lay_all.ensures,
       );
     }
 
-pub returns : goal.returns
-returns c =
-    let t = c in
-    let s = t in record {
-      mask_value = λ one. absurd (c.if-sets-eq1.false one);
-      ready = λ more.
-          record {
-            rights = t.own_rights-own.ensures;
-            holding = c.fill-held.ensures _;
-          };
-    }
+pub returns-in-None : goal.returns-in-None
+returns-in-None c =
+    rw c.in-None.is (record {
+      rights = c.own_rights-own.ensures;
+      holding = c.fill-held.ensures _;
+    })

@@ -6,13 +6,13 @@ use Rattle.rights.proofs.filter.Goals as goal
 pub returns-then-minimal-eq0 : goal.returns-then-minimal-eq0
 returns-then-minimal-eq0 c = λ v own e h. kept_none v _ _ c.if-minimal-eq0.true
 
-pub returns-then-backed_bit-eq1 : goal.returns-then-backed_bit-eq1
-returns-then-backed_bit-eq1 c =
+pub returns-then-backed : goal.returns-then-backed
+returns-then-backed c =
     let s = c in
-    kept_by _ _ _ _ _ s.args.held s.args.work.now c.backed_bit.ensures
-    c.if-backed_bit-eq1.true c.undropped.ensures
+    kept_by _ _ _ _ _ s.args.held s.args.work.now c.backed.ensures
+    c.if-backed.true c.undropped.ensures
 
 pub returns : goal.returns
 returns c =
     let s = c in
-    dropped_by _ _ _ _ s.args.held s.args.work.now c.backed_bit.ensures c.if-backed_bit-eq1.false
+    dropped_by _ _ _ _ s.args.held s.args.work.now c.backed.ensures c.if-backed.false

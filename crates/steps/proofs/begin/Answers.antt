@@ -6,7 +6,6 @@ use Rattle.model.specs.Listing.{ordinary}
 use Rattle.model.proofs.Listing.{cells_length}
 use Rattle.grounds.proofs.Sound.{check_code_le}
 use Rattle.walk.specs.Walks.{Passes}
-use Rattle.passing.specs.declared.Reached.{Reached}
 use Rattle.steps.proofs.Begins.{refusal_number, begin_refused, begin_few, begin_past, begin_spent, begin_end}
 use Rattle.steps.proofs.Begins.{begin_short, begin_walks}
 use Rattle.steps.proofs.begin.Goals as goal
@@ -62,13 +61,13 @@ step-requires c =
     ∙ f.if-code-ne0.false in
     let s = f in
     let h =
-    subst (λ (r : Reached). Passes (ordinary s.args.cat.now) f.first-w.result r q.pass_first.new.work)
-    c.in-At.is
+    subst (λ (r : Option Walk). Passes (ordinary s.args.cat.now) f.first-w.result r q.pass_first.new.work)
+    c.in-Some.is
     q.pass_first.ensures in
     (none, h.0)
 
-pub returns-in-At : goal.returns-in-At
-returns-in-At c =
+pub returns-in-Some : goal.returns-in-Some
+returns-in-Some c =
     let p = c in
     let q = p in
     let f = q in
@@ -77,17 +76,17 @@ returns-in-At c =
     let s = f in
     let g = f.first-w.ensures s.args.work.now (search rules) in
     let h =
-    subst (λ (r : Reached). Passes (ordinary s.args.cat.now) f.first-w.result r q.pass_first.new.work)
-    p.in-At.is
+    subst (λ (r : Option Walk). Passes (ordinary s.args.cat.now) f.first-w.result r q.pass_first.new.work)
+    p.in-Some.is
     q.pass_first.ensures in
     begin_walks _ (ordinary s.args.cat.now) s.args.place s.args.budget s.args.room
     s.args.work.now none
-    g.fresh.sound.enough f.first-w.result s.args.work.now g p.in-At.v
+    g.fresh.sound.enough f.first-w.result s.args.work.now g p.in-Some.v
     q.pass_first.new.work h (search rules)
     c.step.result c.step.new.work c.step.ensures
 
-pub returns-in-Stop : goal.returns-in-Stop
-returns-in-Stop c =
+pub returns-in-None : goal.returns-in-None
+returns-in-None c =
     let p = c in
     let q = p in
     let f = q in
@@ -96,10 +95,10 @@ returns-in-Stop c =
     let s = f in
     let g = f.first-w.ensures s.args.work.now (search rules) in
     let h =
-    subst (λ (r : Reached). Passes (ordinary s.args.cat.now) f.first-w.result r q.pass_first.new.work)
-    p.in-Stop.is
+    subst (λ (r : Option Walk). Passes (ordinary s.args.cat.now) f.first-w.result r q.pass_first.new.work)
+    p.in-None.is
     q.pass_first.ensures in
     begin_short _ (ordinary s.args.cat.now) s.args.place s.args.budget s.args.room
     s.args.work.now none
     g.fresh.sound.enough f.first-w.result s.args.work.now g q.pass_first.new.work h
-    (search rules) _ c.zero_words-in-Stop.ensures
+    (search rules) _ c.zero_words-in-None.ensures

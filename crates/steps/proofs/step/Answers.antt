@@ -4,7 +4,6 @@ use native.Mathlib.Omega.{arith}
 use Rattle.model.specs.Listing.{ordinary}
 use borrow.Author.Rules.{rules}
 use Rattle.walk.specs.Walks.{Goes}
-use Rattle.passing.specs.declared.Reached.{Reached}
 use Rattle.steps.proofs.Stepping.{stepping_begun, stepping_on, step_done, puts, step_put}
 use Rattle.steps.proofs.step.Goals as goal
 
@@ -25,8 +24,8 @@ loop-v-smaller c =
     let s = c in
     let l = c.loop-v in
     let o = c.onward in
-    let g = subst (λ (r : Reached). Goes (ordinary s.args.cat.now) l.v r o.new.work)
-    c.in-At.is o.ensures in
+    let g = subst (λ (r : Option Walk). Goes (ordinary s.args.cat.now) l.v r o.new.work)
+    c.in-Some.is o.ensures in
     g.2
 
 pub loop-v-preserved : goal.loop-v-preserved
@@ -34,25 +33,25 @@ loop-v-preserved c =
     let s = c in
     let l = c.loop-v in
     let o = c.onward in
-    let g = subst (λ (r : Reached). Goes (ordinary s.args.cat.now) l.v r o.new.work)
-    c.in-At.is o.ensures in
-    (l.invariant.0, stepping_on _ _ _ _ _ l.invariant.1 c.in-At.next o.new.work g (search rules))
+    let g = subst (λ (r : Option Walk). Goes (ordinary s.args.cat.now) l.v r o.new.work)
+    c.in-Some.is o.ensures in
+    (l.invariant.0, stepping_on _ _ _ _ _ l.invariant.1 c.in-Some.next o.new.work g (search rules))
 
-pub shape_of-work-in-Stop : goal.shape_of-work-in-Stop
-shape_of-work-in-Stop c =
+pub shape_of-work-in-None : goal.shape_of-work-in-None
+shape_of-work-in-None c =
     omega (
       arith,
       c.loop-v.invariant.1.length,
     )
 
-pub returns-in-Stop : goal.returns-in-Stop
-returns-in-Stop c =
+pub returns-in-None : goal.returns-in-None
+returns-in-None c =
     let t = c in
     let l = t.loop-v in
     let s = t in
     let o = t.onward in
-    let g = subst (λ (r : Reached). Goes (ordinary s.args.cat.now) l.v r o.new.work)
-    t.in-Stop.is o.ensures in
+    let g = subst (λ (r : Option Walk). Goes (ordinary s.args.cat.now) l.v r o.new.work)
+    t.in-None.is o.ensures in
     step_done _ _ _ _ _ l.invariant.1 o.new.work g _ c.zero_words.ensures (search rules)
 
 pub put-requires : goal.put-requires

@@ -1,4 +1,5 @@
 -- `columns::ColumnSet::next` meets its contract: the next number of the size, or the first of the next size.
+use Rattle.std.specs.Prelude.{Option, Some}
 use Prim.Native.Nat.{ℕ, ◌+◌, ◌-◌, ◌^◌, ◌≤◌, ◌<◌}
 use mathlib.Core.Path.{◌≡◌, sym, ap, ◌∙◌}
 use native.Mathlib.Numerals.{add-one}
@@ -8,8 +9,7 @@ use lib.Pow.{pow_pos, pow_mono}
 use Rattle.columns.specs.Bound.{column_bound}
 use Rattle.columns.specs.Set.{size_of, set_of, members_of}
 use Rattle.columns.specs.Order.{next_of}
-use Rattle.columns.specs.declared.SetOrNone.{SetOrNone}
-use Rattle.columns.specs.declared.SetOrNone.TheVariants.{Set}
+use Rattle.columns.specs.declared.ColumnSet.{ColumnSet}
 use Rattle.columns.proofs.Size.{power_pos}
 use Rattle.columns.proofs.Next.{Moved, LastOfSize, moved_by, lowest_le, lowest_lt, last_zero, last_moved}
 use Rattle.columns.proofs.Next.{next_over, next_absent, next_of_size, next_of_next_size, next_of_last}
@@ -36,7 +36,7 @@ within : (c : Else-end-x) → width c ≤ column_bound
 within c = c.if-n-gt-COLUMN_BOUND.false
 
 -- what is next after that number is what the set answers
-told : (c : Else-end-x) {r : SetOrNone} → next_of (width c) (bits c) ≡ r
+told : (c : Else-end-x) {r : Option ColumnSet} → next_of (width c) (bits c) ≡ r
     → r ≡ next_of (width c) (members_of c.args.self.bits)
 told c e = sym e ∙ ap (next_of (width c)) c.members-x.ensures
 
@@ -113,7 +113,7 @@ returns-then-r-end c =
     let e = c.before.before in
     let d = e.before.before in
     let r = bits d + e.power.result in
-    ap (λ (p : ℕ). Set (set_of (r + (p - 1)))) c.power-low.ensures
+    ap (λ (p : ℕ). Some (set_of (r + (p - 1)))) c.power-low.ensures
     ∙ told d (next_of_size (width d) (bits d) r (within d) (grown e) (moved e) (inside c.before))
 
 pub overflow_sub-result : goal.overflow_sub-result
@@ -122,7 +122,7 @@ overflow_sub-result c = power_pos _ _ c.power-then-s-n.ensures
 pub returns-then-s-n : goal.returns-then-s-n
 returns-then-s-n c =
     let d = c.before.before.before in
-    ap (λ (p : ℕ). Set (set_of (p - 1))) (c.power-then-s-n.ensures ∙ ap (λ (i : ℕ). 2 ^ i) (add-one (size_of (bits d))))
+    ap (λ (p : ℕ). Some (set_of (p - 1))) (c.power-then-s-n.ensures ∙ ap (λ (i : ℕ). 2 ^ i) (add-one (size_of (bits d))))
     ∙ told d (next_of_next_size (width d) (bits d) (within d) (below d) (last c.before.before)
     c.if-s-n.true)
 
