@@ -1,7 +1,7 @@
--- Loops over a list: what holds of some element and of each, with the rest of the list still to go; and the entries and
--- the records of bytes one by one.
-use Prim.Native.Nat.{ℕ, zero, suc, ◌+◌, ◌*◌, ◌-◌, ◌<◌}
-use mathlib.Core.Path.{◌≡◌, refl, sym, ap, subst}
+-- What holds of some element of a list and of each: from the first element on, and by index for the entries and the
+-- records of bytes.
+use Prim.Native.Nat.{ℕ, zero, suc, ◌+◌, ◌*◌, ◌<◌}
+use mathlib.Core.Path.{◌≡◌, refl, sym, subst}
 use mathlib.Core.Logic.{◌↔◌, ◌⊎◌, inl, inr}
 use mathlib.Core.List.Memᴰ
 use mathlib.Core.List.{List, [], ◌∷◌, Memᴰ}
@@ -36,36 +36,6 @@ module _ {A : Type 0} where
       at : (x : A) → P x → (x ≡ e) ⊎ Memᴰ x es → P e ⊎ Some P es
       at x p (inl s) = inl (subst P s p)
       at x p (inr m) = inr (x, m, p)
-
-  -- what is asked holds of each of the rest exactly if of each of the whole; and the rest is fine
-  pub record Testing (Asked Fine : A → Type 0) (whole rest : List A) : Type 0 where
-    pub is : Each Asked rest ↔ Each Asked whole
-    pub fine : Each Fine rest
-
-  module _ {Asked Fine : A → Type 0} {whole : List A} where
-    pub testing_begun : Each Fine whole → Testing Asked Fine whole whole
-    testing_begun f = record { is = (λ h. h, λ h. h); fine = f }
-
-    pub testing_fine : {rest others : List A} {e : A} → rest ≡ e ∷ others → Testing Asked Fine whole rest → Fine e
-    testing_fine s g = each_first s g.fine
-
-    pub testing_more : {rest others : List A} {e : A} → rest ≡ e ∷ others → Asked e → Testing Asked Fine whole rest
-        → Testing Asked Fine whole others
-    testing_more s p g =
-        record {
-          is = (
-            λ f. g.is.0 (subst (Each Asked) (sym s) (each_cons p f)),
-            λ f. each_others s (g.is.1 f),
-          );
-          fine = each_others s g.fine;
-        }
-
-    pub testing_failed : {rest others : List A} {e : A} → rest ≡ e ∷ others → (Asked e → ⊥)
-        → Testing Asked Fine whole rest → Each Asked whole → ⊥
-    testing_failed s n g f = n (each_first s (g.is.1 f))
-
-    pub testing_done : {rest : List A} → rest ≡ [] → Testing Asked Fine whole rest → Each Asked whole
-    testing_done s g = g.is.0 (subst (Each Asked) (sym s) (λ x m. absurd (Memᴰ.not-nil m)))
 
 -- what holds of each element of a list whose elements stand so many bytes apart, by index
 module _ {A : Type 0} (width : ℕ) (at : ℕ → A) (from : ℕ → ℕ → List A) (none : (i : ℕ) → from 0 i ≡ [])
@@ -148,30 +118,3 @@ some_record P bytes n =
       λ w. some_from evidence_bytes (record_at bytes) (records_from bytes) (λ i. refl) (λ n i. refl) P n 0 w.0 w.1
           (subst (λ (j : ℕ). P (record_at bytes j)) (sym (start w.0)) w.2),
     )
-
--- the entries and the records of bytes, the first one by itself
-pub entries_none : (file : List ℕ) (n i : ℕ) → n ≡ 0 → entries_from file n i ≡ []
-unfolding entries_from
-entries_none file zero i e = refl
-entries_none file (suc n) i e = absurd (omega arith)
-
-pub entries_next : (file : List ℕ) (n i : ℕ) → 0 < n
-    → entries_from file n i ≡ entry_at file i ∷ entries_from file (n - 1) (i + entry_bytes)
-unfolding entries_from
-entries_next file zero i l = absurd (omega arith)
-entries_next file (suc n) i l =
-    let e : n ≡ suc n - 1 = omega arith in
-    ap (λ (k : ℕ). entry_at file i ∷ entries_from file k (i + entry_bytes)) e
-
-pub records_none : (bytes : List ℕ) (n i : ℕ) → n ≡ 0 → records_from bytes n i ≡ []
-unfolding records_from
-records_none bytes zero i e = refl
-records_none bytes (suc n) i e = absurd (omega arith)
-
-pub records_next : (bytes : List ℕ) (n i : ℕ) → 0 < n
-    → records_from bytes n i ≡ record_at bytes i ∷ records_from bytes (n - 1) (i + evidence_bytes)
-unfolding records_from
-records_next bytes zero i l = absurd (omega arith)
-records_next bytes (suc n) i l =
-    let e : n ≡ suc n - 1 = omega arith in
-    ap (λ (k : ℕ). record_at bytes i ∷ records_from bytes k (i + evidence_bytes)) e

@@ -44,10 +44,11 @@ length_records_from bytes zero i = refl
 length_records_from bytes (suc n) i = omega (arith, length_records_from bytes n (i + evidence_bytes))
 
 -- as many as are whole, where they are those that are held
-pub count_is : (bytes : List ℕ) (count : ℕ) → records_from bytes count 0 ≡ records_held bytes → count ≡ record_count bytes
+pub count_is : (read bytes : List ℕ) (count : ℕ) → records_from read count 0 ≡ records_held bytes
+    → count ≡ record_count bytes
 unfolding records_held
-count_is bytes count e =
-    sym (length_records_from bytes count 0) ∙ ap length e ∙ length_records_from bytes (record_count bytes) 0
+count_is read bytes count e =
+    sym (length_records_from read count 0) ∙ ap length e ∙ length_records_from bytes (record_count bytes) 0
 
 pub whole_is : (bytes : List ℕ) → T (unbroken bytes) ↔ (length bytes % evidence_bytes ≡ 0)
 unfolding unbroken

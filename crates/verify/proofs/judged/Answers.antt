@@ -42,7 +42,7 @@ pub returns : goal.returns
 returns c =
     let a = c.args in
     accepted_from a.cat.now a.list.file.now a.bytes.now a.list.count a.list.first _
-    (count_is a.bytes.now _ c.of-records.ensures)
+    (count_is c.of-records.result.bytes.now a.bytes.now _ c.of-records.ensures)
     (said_yes c.records_true.ensures (ap not c.if-not-records_true.false))
     (said_yes c.entries_sound.ensures (ap not c.if-not-entries_sound.false))
     (subst (CoveredSets a.cat.now (entries_of a.list)) c.of-records.ensures

@@ -18,6 +18,9 @@ returns-in_err-opened c =
     handed_back _ _ c.from_residual-in_err-opened.ensures.1
     (list_refused a.cat.now a.list.now a.evidence.now (sym c.in_ok-check.ensures) c.in_err-opened.ensures)
 
+pub invariant_of-entries : goal.invariant_of-entries
+invariant_of-entries c = let o = opened _ c.in_ok-opened.ensures in omega (arith, o.inside)
+
 pub judged-requires : goal.judged-requires
 judged-requires c = sym c.in_ok-check.ensures
 
