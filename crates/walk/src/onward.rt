@@ -18,7 +18,10 @@ fn pass(cat: &[u8], w: Walk, work: &mut [u32]) -> Option<Walk>
     requires ready { Ready (ordinary cat.now) w.target w.held w.own work.old }
     ensures { Passes (ordinary cat.now) w result work.new }
 {
-    let target = Target { cat, table: w.target };
+    let target = Target {
+        cat,
+        table: w.target,
+    };
     let mask = rights::rights(target, w.members, w.left, w.held, w.own, work);
     passed(w, mask)
 }
@@ -44,15 +47,17 @@ pub fn pass_first(cat: &[u8], w: Walk, work: &mut [u32]) -> Option<Walk>
     requires fresh { Fresh (ordinary cat.now) w work.old }
     ensures { Passes (ordinary cat.now) w result work.new }
 {
-    let target = Target { cat, table: w.target };
+    let target = Target {
+        cat,
+        table: w.target,
+    };
     if w.budget == 1 {
         let mask = rights::alone(target, w.left, work);
         return passed(w, mask);
     }
     let entered = rights::prepare(target, work);
     let v = entering(w, w.target, w.left, w.members, entered);
-    let mask = rights::rights(target, v.members, v.left, v.held, v.own, work);
-    passed(v, mask)
+    pass(cat, v, work)
 }
 
 // The walk at the next set: of the same target, or the empty set of the next target.

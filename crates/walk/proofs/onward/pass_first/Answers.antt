@@ -1,8 +1,7 @@
 -- `walk::pass_first` meets its contract.
-use mathlib.Core.Path.{refl}
 use native.Mathlib.Omega.{arith}
 use Rattle.model.specs.Listing.{ordinary}
-use Rattle.walk.proofs.Walks.{fresh_target, fresh_left, fresh_inside, fresh_passable, passes_by}
+use Rattle.walk.proofs.Walks.{fresh_target, fresh_left, fresh_passable, passes_by}
 use Rattle.walk.proofs.Walks.{entered_fresh, entered_ready, entered_passes}
 use borrow.Author.Rules.{rules}
 use Rattle.walk.proofs.onward.pass_first.Goals as goal
@@ -34,35 +33,16 @@ returns-then-w-eq1 c =
 pub prepare-entered-requires : goal.prepare-entered-requires
 prepare-entered-requires c = c.requires.fresh.sound.enough
 
-pub rights-mask-requires : goal.rights-mask-requires
-rights-mask-requires c =
-    let s = c in
-    let l = ordinary s.args.cat.now in
-    let v = c.entering-v.result in
-    let p = c.prepare-entered in
-    let e = entered_fresh l s.args.w s.args.work.now s.requires.fresh c.entering-v.ensures in
-    let f = e s.args.work.now refl in record {
-      n_value = (f.sound.members, fresh_inside l v s.args.work.now f);
-      ready = entered_ready l s.args.w s.args.work.now s.requires.fresh c.entering-v.ensures p.ensures;
+pub pass-requires : goal.pass-requires
+pass-requires c =
+    let l = ordinary c.args.cat.now in
+    let f = c.requires.fresh in record {
+      accepted = c.requires.accepted;
+      fresh = entered_fresh l c.args.w c.args.work.now f c.entering-v.ensures _ (search rules);
+      ready = entered_ready l c.args.w c.args.work.now f c.entering-v.ensures c.prepare-entered.ensures;
     }
-
-pub passed-requires-2 : goal.passed-requires-2
-passed-requires-2 c =
-    let s = c in
-    let l = ordinary s.args.cat.now in
-    let e = c.entering-v in
-    fresh_passable l e.result s.args.work.now
-    (entered_fresh l s.args.w s.args.work.now s.requires.fresh e.ensures s.args.work.now refl) _
-    c.rights-mask.ensures.value
 
 pub returns : goal.returns
 returns c =
-    let s = c in
-    let l = ordinary s.args.cat.now in
-    let words = s.args.work.now in
-    let e = c.entering-v in
-    let r = c.rights-mask in
-    entered_passes l s.args.w words s.requires.fresh e.ensures c.passed-2.result r.new.work
-    (passes_by l e.result words (entered_fresh l s.args.w words s.requires.fresh e.ensures words refl) _
-    r.ensures.value _
-    (λ some. r.ensures.ready_2) (search rules) c.passed-2.result c.passed-2.ensures)
+    entered_passes (ordinary c.args.cat.now) c.args.w c.args.work.now c.requires.fresh c.entering-v.ensures
+    c.pass.result c.pass.new.work c.pass.ensures
