@@ -3,6 +3,7 @@ use Prim.Native.Nat.{ℕ, zero, suc, ◌+◌, ◌-◌, ◌≤◌, ◌<◌}
 use mathlib.Core.Path.{◌≡◌, refl, sym, ap, ◌∙◌}
 use native.Mathlib.Nat.{sub-zero}
 use native.Mathlib.Omega.{arith}
+use Rattle.columns.proofs.Test.{if_eq_yes, if_eq_no, if_lt_yes, if_lt_no, if_le_yes, if_le_no}
 use Rattle.model.specs.Refusal.{or_else, first_of}
 use Rattle.model.proofs.Grounds.{is_this, is_next}
 
@@ -36,3 +37,6 @@ unfolding first_of
 none_found n k f e h =
     let p : 0 ≡ n - k = omega arith in
     ap (λ (m : ℕ). first_of m k f) p ∙ sym e
+
+-- what a test comes to, by cases
+pub ruleset tests = (if_eq_yes, if_eq_no, if_lt_yes, if_lt_no, if_le_yes, if_le_no)

@@ -20,6 +20,7 @@ use model::{NO_PARENT, ROW_BOUND, Refusal, TABLES};
 const SMALLEST_FILE: usize = 16;
 
 // 1: the file is shorter than the smallest one.
+#[tactic(auto, using(crate::proofs::First::tests), unfolding(model::specs::Check::size_code))]
 fn check_size(cat: &[u8]) -> Result<(), Refusal>
     ensures { code_of result ≡ size_code cat.now }
 {
@@ -30,6 +31,7 @@ fn check_size(cat: &[u8]) -> Result<(), Refusal>
 }
 
 // 2: no table or too many, or the trailer does not end the file.
+#[tactic(auto, using(crate::proofs::First::tests), unfolding(model::specs::Check::trailer_code))]
 fn check_trailer(cat: &[u8]) -> Result<(), Refusal>
     ensures { code_of result ≡ trailer_code cat.now }
 {
@@ -58,6 +60,7 @@ fn start_of(cat: &[u8], table: u32) -> usize
 }
 
 // 3: the table's offset is not there, or its first 6 bytes pass the trailer's first byte.
+#[tactic(auto, using(crate::proofs::First::tests), unfolding(model::specs::Check::head_code))]
 fn check_head(cat: &[u8], table: u32) -> Result<(), Refusal>
     ensures { code_of result ≡ head_code cat.now table }
 {
@@ -73,6 +76,7 @@ fn check_head(cat: &[u8], table: u32) -> Result<(), Refusal>
 }
 
 // 4: too many columns or rows.
+#[tactic(auto, using(crate::proofs::First::tests), unfolding(model::specs::Check::bound_code))]
 fn check_bounds(cat: &[u8], table: u32) -> Result<(), Refusal>
     ensures { code_of result ≡ bound_code cat.now table }
 {
@@ -88,6 +92,7 @@ fn check_bounds(cat: &[u8], table: u32) -> Result<(), Refusal>
 }
 
 // 5: the root has a parent table, or another's is not a lower-numbered one.
+#[tactic(auto, using(crate::proofs::First::tests), unfolding(model::specs::Check::parent_code))]
 fn check_parent(cat: &[u8], table: u32) -> Result<(), Refusal>
     ensures { code_of result ≡ parent_code cat.now table }
 {
@@ -105,6 +110,7 @@ fn check_parent(cat: &[u8], table: u32) -> Result<(), Refusal>
 }
 
 // 6: too many visible columns.
+#[tactic(auto, using(crate::proofs::First::tests), unfolding(model::specs::Check::width_code))]
 fn check_width(cat: &[u8], table: u32) -> Result<(), Refusal>
     ensures { code_of result ≡ width_code cat.now table }
 {
@@ -115,6 +121,7 @@ fn check_width(cat: &[u8], table: u32) -> Result<(), Refusal>
 }
 
 // 3: the rows pass the trailer's first byte.
+#[tactic(auto, using(crate::proofs::First::tests), unfolding(model::specs::Check::extent_code))]
 fn check_extent(cat: &[u8], table: u32) -> Result<(), Refusal>
     ensures { code_of result ≡ extent_code cat.now table }
 {
@@ -126,6 +133,7 @@ fn check_extent(cat: &[u8], table: u32) -> Result<(), Refusal>
 }
 
 // 7: a row of the root has a parent row, or another's is not below the parent table's rows.
+#[tactic(auto, using(crate::proofs::First::tests))]
 fn check_row(table: u32, up: u16, above: u16) -> Result<(), Refusal>
     ensures { code_of result ≡ if_eq table 0 (if_eq up no_parent 0 (number BadParentRow)) (if_lt up above 0 (number BadParentRow)) }
 {
@@ -155,6 +163,7 @@ fn check_rows(cat: &[u8], table: u32) -> Result<(), Refusal>
 }
 
 // One table: offset and 6 bytes, then 4, 5, 6, the rows' extent, and each row.
+#[tactic(auto, using(model::proofs::Codes::tries), unfolding(model::specs::Check::table_code))]
 fn check_table(cat: &[u8], table: u32) -> Result<(), Refusal>
     ensures { code_of result ≡ table_code cat.now table }
 {
@@ -189,6 +198,7 @@ fn check_left(cat: &[u8]) -> Result<(), Refusal>
 }
 
 // The first ground against the catalogue: 1 and 2, then table by table, then left bytes.
+#[tactic(auto, using(model::proofs::Codes::tries), unfolding(model::specs::Check::check_code))]
 pub fn check(cat: &[u8]) -> Result<(), Refusal>
     ensures { code_of result ≡ check_code cat.now }
 {

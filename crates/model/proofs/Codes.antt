@@ -15,7 +15,7 @@ use Rattle.model.specs.declared.Refusal.TheVariants.{RunTooShort, NoList, BadEnt
 use Rattle.model.specs.declared.Refusal.TheVariants.{FalseRecord, UnsoundEntry, UncoveredSet}
 use Rattle.model.specs.declared.Refusal.TheVariants.{BadText, UnfitText, NoRoom}
 use Rattle.model.specs.Reply.{Reply, refused, reply_of}
-use Rattle.model.proofs.Grounds.{is_this, is_next, reply_refused}
+use Rattle.model.proofs.Grounds.{is_this, is_next, or_else_next, or_else_first, reply_refused}
 
 pub number_range : (r : Refusal) → (1 ≤ number r) × (number r ≤ last_refusal)
 number_range FileTooShort = (lit≤ tt, lit≤ tt)
@@ -68,3 +68,6 @@ pub handed_reply : {A : Type 0} (reply : Result A Refusal → Reply) → ((e : R
 handed_reply reply each (Ok x) why values h e = absurd h
 handed_reply reply each (Err y) why values h e =
     each y ∙ reply_refused values (ap number h ∙ e) (number_pos y)
+
+-- what grounds tried in order by `?` need
+pub ruleset tries = (or_else_next, or_else_first, number_pos, handed_on)
