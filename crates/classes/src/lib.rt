@@ -4,10 +4,10 @@
 // numbers.
 #![tactic(auto)]
 
-ghost use Rattle.std.specs.Prelude.{◌+◌, ◌≤◌, ◌<◌, ◌≡◌, true, length, IfSome};
+ghost use Rattle.std.specs.Prelude.{◌+◌, ◌≤◌, ◌<◌, ◌≡◌, true, IfSome};
 ghost use Rattle.columns.specs.Bound.{column_bound};
 ghost use Rattle.model.specs.Bounds.{row_bound};
-ghost use Rattle.classes.specs.Classes.{bytes_size, Numbering, OnlyMember, SameClasses, Numbered};
+ghost use Rattle.classes.specs.Classes.{Numbering, OnlyMember, SameClasses, Numbered};
 
 use bits::power;
 use columns::COLUMN_BOUND;

@@ -8,7 +8,7 @@
 mod part;
 mod wide;
 
-ghost use Rattle.std.specs.Prelude.{◌≤◌, ◌<◌, ◌≡◌, length};
+ghost use Rattle.std.specs.Prelude.{◌≤◌, ◌<◌};
 ghost use Rattle.columns.specs.Bound.{column_bound};
 ghost use Rattle.model.specs.Bounds.{row_bound};
 ghost use Rattle.table.specs.Broken.{agree_set_of};

@@ -1,5 +1,5 @@
 // A part of a line: eight members compared by the numbers of their classes, a bit of a byte for each.
-ghost use Rattle.std.specs.Prelude.{◌+◌, ◌≤◌, ◌<◌, ◌≡◌, length, bit_or, fold, All};
+ghost use Rattle.std.specs.Prelude.{◌+◌, ◌≤◌, ◌<◌, ◌≡◌, bit_or, fold, All};
 ghost use Rattle.columns.specs.Bound.{column_bound};
 ghost use Rattle.model.specs.Bounds.{row_bound};
 ghost use Rattle.classes.specs.Classes.{bytes_size};

@@ -1,7 +1,6 @@
 // Members whose classes are not numbered: compared by their keys, one after the other.
-ghost use Rattle.std.specs.Prelude.{ℕ, ◌+◌, ◌≤◌, ◌<◌, ◌≡◌, List, eqb, length};
+ghost use Rattle.std.specs.Prelude.{ℕ, ◌+◌, ◌≤◌, ◌<◌, List};
 ghost use Rattle.columns.specs.Bound.{column_bound};
-ghost use Rattle.columns.specs.Test.{pick};
 ghost use Rattle.model.specs.Bounds.{row_bound};
 ghost use Rattle.lines.specs.Lines.{LineOf, with_member, met_at};
 

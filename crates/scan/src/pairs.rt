@@ -1,8 +1,7 @@
 // Which agree sets occur: a flag for each, which is true exactly if some pair of rows has it.
-ghost use Rattle.std.specs.Prelude.{ℕ, ◌+◌, ◌^◌, ◌≤◌, ◌<◌, ◌≡◌, length};
+ghost use Rattle.std.specs.Prelude.{◌≤◌};
 ghost use Rattle.columns.specs.Bound.{column_bound};
 ghost use Rattle.model.specs.Bounds.{row_bound};
-ghost use Rattle.table.specs.Words.{word};
 ghost use Rattle.scan.specs.SeenSets.{SetNoted, LineNoted, Blank, SeenSets};
 
 use crate::SETS;
