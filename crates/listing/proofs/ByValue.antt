@@ -7,11 +7,14 @@ use mathlib.Core.Logic.{◌⊎◌, inl, inr}
 use mathlib.Core.List.{List, ◌∷◌, ◌++◌}
 use lib.ListN.{length, take, drop, replicate, length-replicate, length-append}
 use lib.Seq.{take_at, drop_at}
+use Rattle.columns.specs.Test.{if_lt}
 use Rattle.columns.proofs.Test.{if_lt_yes, if_lt_no}
 use Rattle.model.specs.Entry.{entry}
 use Rattle.model.specs.Reply.{list_reply}
 use Rattle.model.specs.declared.Entry.{Entry}
-use Rattle.model.specs.declared.ListAnswer.{ListAnswer}
+use Rattle.std.specs.Prelude.{Result, min}
+use Rattle.model.specs.declared.Progress.{Progress}
+use Rattle.model.specs.declared.Refusal.{Refusal}
 use Rattle.model.proofs.Calls.{le_or_lt}
 use Rattle.model.specs.List.{ListMeaning}
 use Rattle.model.specs.Calls.{seen}
@@ -25,6 +28,15 @@ unfolding cap
 cap_within room = go (le_or_lt run_bound room)
   where
     go : (run_bound ≤ room) ⊎ (room < run_bound) → cap room ≤ run_bound
+    go (inl h) = rw (if_lt_no room h) (omega arith)
+    go (inr h) = rw (if_lt_yes run_bound h) (omega arith)
+
+-- the less of the two is what the run holds
+pub min_cap : (room : ℕ) {k : ℕ} → k ≡ min room run_bound → k ≡ cap room
+unfolding cap
+min_cap room {k} e = go (le_or_lt run_bound room)
+  where
+    go : (run_bound ≤ room) ⊎ (room < run_bound) → k ≡ if_lt room run_bound room run_bound
     go (inl h) = rw (if_lt_no room h) (omega arith)
     go (inr h) = rw (if_lt_yes run_bound h) (omega arith)
 
@@ -55,7 +67,7 @@ run_length room ys e =
       cap_within room,
     )
 
-pub filled_by : (cat : List ℕ) (place budget room : ℕ) (words : List ℕ) (a : ListAnswer) (ys : List Entry) (ws : List ℕ)
+pub filled_by : (cat : List ℕ) (place budget room : ℕ) (words : List ℕ) (a : Result Progress Refusal) (ys : List Entry) (ws : List ℕ)
     → length ys ≡ length (fresh room) → ListMeaning cat (seen place budget (fresh room) words (list_reply a) ys ws)
     → FilledBy cat place budget room words a (ys ++ rest room) ws
 filled_by cat place budget room words a ys ws e l =
@@ -81,7 +93,7 @@ module _ (room k : ℕ) (zs : List Entry) (z : zs ≡ replicate run_bound zeros)
   pub taken_length : k ≡ length (take k zs)
   taken_length = e ∙ sym (ap length taken ∙ length-replicate (cap room) zeros)
 
-  pub filled_from : (cat : List ℕ) (place budget : ℕ) (words : List ℕ) (a : ListAnswer) (ys : List Entry) (ws : List ℕ)
+  pub filled_from : (cat : List ℕ) (place budget : ℕ) (words : List ℕ) (a : Result Progress Refusal) (ys : List Entry) (ws : List ℕ)
       → length ys ≡ length (take k zs) → ListMeaning cat (seen place budget (take k zs) words (list_reply a) ys ws)
       → FilledBy cat place budget room words a (ys ++ drop k zs) ws
   filled_from cat place budget words a ys ws n m =

@@ -10,14 +10,16 @@ use Rattle.columns.proofs.Test.{if_eq_yes, if_eq_no}
 use Rattle.model.specs.Calls.{run_after}
 use Rattle.model.specs.Reply.{reply_of, list_reply}
 use Rattle.model.specs.declared.Entry.{Entry}
-use Rattle.model.specs.declared.ListAnswer.{ListAnswer}
+use Rattle.std.specs.Prelude.{Ok, Err}
+use Rattle.model.specs.declared.Progress.{Progress}
+use Rattle.model.specs.declared.Refusal.{Refusal}
 use Rattle.passing.specs.declared.Walk.{Walk}
 use Rattle.steps.specs.declared.Stepped.{Stepped}
 use Rattle.steps.specs.declared.Stepped.TheVariants.{Put, Done}
 use Rattle.model.specs.Listing.{Listing, cells}
 use Rattle.model.specs.List.{first_code, CallMeaning}
 use Rattle.walk.specs.Meaning.{Good}
-use Rattle.steps.specs.Steps.{due, to_put, reply_to, WordsBegun, Begins, Went, whole, values}
+use Rattle.steps.specs.Steps.{due, to_put, reply_to, WordsBegun, Begins, Began, Went, whole, values}
 use Rattle.model.specs.Calls.{seen}
 use Rattle.steps.proofs.Stepping.{kept_after}
 use Rattle.listing.proofs.Lists.{set_next}
@@ -29,7 +31,7 @@ module _ (l : Listing) (code : ℕ) (es : List Entry) (vs : List ℕ) (run : Lis
     pub fits : length (due code es) ≤ length run
     pub reply : reply_to l s ≡ reply_of code vs
     pub same : length now ≡ length words
-    pub kept : WordsBegun l code words s now
+    pub kept : WordsBegun l code words (Ok s) now
 
   -- the run, with what is put before what was there
   abbrev pub run_with : List Entry → List Entry
@@ -42,7 +44,7 @@ module _ (l : Listing) (code : ℕ) (es : List Entry) (vs : List ℕ) (run : Lis
     pub written : ys ≡ run_with put
     pub facts : Facts s put now
 
-  pub begun : (s : Stepped) (now : List ℕ) → Begins l code es vs (length run) words s now
+  pub begun : (s : Stepped) (now : List ℕ) → Begins l code es vs (length run) words (Ok s) now
       → length now ≡ length words → Facts s [] now
   begun s now b k =
       record {
@@ -107,16 +109,28 @@ module _ (l : Listing) (code : ℕ) (es : List Entry) (vs : List ℕ) (run : Lis
   due_after zero = ap run_with (if_eq_yes [] refl) ∙ sym (if_eq_yes run refl)
   due_after (suc c) = ap run_with (if_eq_no es (λ e. omega arith)) ∙ sym (if_eq_no (run_with es) (λ e. omega arith))
 
-  pub written_all : (put : List Entry) (now : List ℕ) (a : ListAnswer) → Facts (Done a) put now
+  pub written_all : (put : List Entry) (now : List ℕ) (a : Progress) → Facts (Done a) put now
       → run_with put ≡ run_after code es run
   written_all put now a f = ap run_with (sym (append-nil put) ∙ f.all) ∙ due_after code
+
+-- a call that is refused puts nothing
+pub refuses : (before : ℕ) (l : Listing) (place budget : ℕ) (run : List Entry) (words now : List ℕ) (r : Refusal)
+    → Began before l place budget (length run) words (Err r) now
+    → CallMeaning before l (seen place budget run words (list_reply (Err r)) run now)
+refuses before l place budget run words now r b =
+    let es = whole l place budget (length run) in
+    record {
+      reply = b.reply;
+      run = ap (run_with l 0 es [] run words) b.put ∙ due_after l 0 es [] run words _;
+      work = b.kept;
+    }
 
 -- when nothing is left the call did what it must
 pub lists : (before : ℕ) (l : Listing) (place budget : ℕ) (run : List Entry) (words : List ℕ) (put : List Entry)
     (now : List ℕ)
-    (a : ListAnswer)
+    (a : Progress)
     → Facts l (first_code before (cells l) place budget (length run) (length words)) (whole l place budget (length run))
     (values l place budget (length run)) run words (Done a) put now
-    → CallMeaning before l (seen place budget run words (list_reply a) (put ++ drop (length put) run) now)
+    → CallMeaning before l (seen place budget run words (list_reply (Ok a)) (put ++ drop (length put) run) now)
 lists before l place budget run words put now a f =
     record { reply = f.reply; run = written_all l _ _ _ run words put now a f; work = f.kept }

@@ -9,7 +9,9 @@ use Rattle.columns.proofs.Test.{if_eq_yes, if_eq_no}
 use Rattle.model.specs.Calls.{run_after}
 use Rattle.model.specs.Entry.{entry}
 use Rattle.model.specs.declared.Entry.{Entry}
-use Rattle.model.specs.declared.ListAnswer.{ListAnswer}
+use Rattle.std.specs.Prelude.{Result}
+use Rattle.model.specs.declared.Progress.{Progress}
+use Rattle.model.specs.declared.Refusal.{Refusal}
 use Rattle.model.proofs.Stops.{written_fits}
 use Rattle.model.specs.List.{list_code}
 use Rattle.model.specs.Listing.{ordinary}
@@ -28,7 +30,7 @@ run_after_append {A} (suc k) es xs ys h =
     ap (λ (l : List A). l ++ ys) (if_eq_no (es ++ drop (length es) xs) (λ e. omega arith))
     ∙ sym (if_eq_no (es ++ drop (length es) (xs ++ ys)) (λ e. omega arith))
 
-pub run_is_run_after_zeros : (cat : List ℕ) (place budget room : ℕ) (work : List ℕ) (answer : ListAnswer)
+pub run_is_run_after_zeros : (cat : List ℕ) (place budget room : ℕ) (work : List ℕ) (answer : Result Progress Refusal)
     (run : List Entry)
     (work_then : List ℕ)
     → FilledBy cat place budget room work answer run work_then

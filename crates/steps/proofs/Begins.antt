@@ -7,8 +7,7 @@ use native.Mathlib.Omega.{arith}
 use lib.ListN.{length, drop, get_or, replicate}
 use Rattle.columns.proofs.Test.{if_eq_yes, if_eq_no}
 use Rattle.model.specs.Bounds.{work_bound}
-use Rattle.model.specs.Check.{check_code}
-use Rattle.model.specs.Refusal.{number, last_refusal}
+use Rattle.model.specs.Refusal.{number}
 use Rattle.model.specs.Calls.{passed, written, call_code, work_after}
 use Rattle.model.specs.Listing.{Listing, cells}
 use Rattle.model.specs.List.{first_code}
@@ -16,14 +15,13 @@ use Rattle.model.specs.Reply.{Reply, reply_of, answered}
 use Rattle.model.specs.declared.Entry.{Entry}
 use Rattle.std.specs.Prelude.{Result, Ok, Err, Some, None}
 use Rattle.model.specs.declared.Refusal.{Refusal}
-use Rattle.model.specs.declared.Refusal.TheVariants.{FileTooShort, TooFewWords, PastTheEnd, RunTooShort}
+use Rattle.model.specs.declared.Refusal.TheVariants.{TooFewWords, PastTheEnd, RunTooShort}
 use Rattle.model.proofs.Codes.{number_pos}
 use Rattle.model.proofs.Grounds.{or_else_first}
 use Rattle.model.proofs.Complete.{after_none}
 use Rattle.model.proofs.Calls.{passed_spent, written_spent, passed_end_at, written_end_at, call_few, call_past}
 use Rattle.model.proofs.Calls.{call_short, call_none}
 use Rattle.model.proofs.Stops.{written_fits}
-use Rattle.grounds.proofs.Sound.{check_code_le}
 use Rattle.walk.specs.Meaning.{ahead, final}
 use Rattle.steps.specs.Steps.{due, Began, Went, whole, values}
 use Rattle.walk.specs.Walks.{First, Passes, cell_of}

@@ -20,7 +20,8 @@ use refusals::zero_words;
 use walk::locate::first;
 use walk::onward::{onward, pass_first};
 
-// What comes next: an entry to put and the walk after it, or the answer.
+// What comes next: an entry to put and the walk after it, or the answer. It is no `Result`, since neither is an error,
+// and no `ControlFlow`, whose `Continue((e, w))` and `Break(a)` say less than these names.
 #[derive(Clone, Copy)]
 pub enum Stepped {
     Put(Entry, Walk),

@@ -1,7 +1,13 @@
 -- `listing::list` meets its contract: the invariant over a turn that puts an entry, and at the end.
+use Rattle.std.proofs.lemmas.Result.{err_from_is_err_and}
 use Rattle.model.proofs.Complete.{none_before}
-use Rattle.listing.proofs.Steps.{no_ground, good, stands_next, lists}
+use Rattle.listing.proofs.Steps.{no_ground, good, refuses, stands_next, lists}
 use Rattle.listing.proofs.list.Goals as goal
+
+pub returns-in_err-s : goal.returns-in_err-s
+returns-in_err-s c =
+    let p = err_from_is_err_and c.from_residual.result c.from_residual.ensures.1 in
+    rw (p.1, p.2) (refuses _ _ _ _ _ _ _ _ c.in_err-s.ensures)
 
 pub step-s-requires : goal.step-s-requires
 step-s-requires c =

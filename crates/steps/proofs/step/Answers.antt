@@ -1,9 +1,6 @@
 -- The answers of `steps::step`.
-use mathlib.Core.Path.{subst}
 use native.Mathlib.Omega.{arith}
-use Rattle.model.specs.Listing.{ordinary}
 use borrow.Author.Rules.{rules}
-use Rattle.walk.specs.Walks.{Goes}
 use Rattle.steps.proofs.Stepping.{stepping_begun, stepping_on, step_done, puts, step_put}
 use Rattle.steps.proofs.step.Goals as goal
 
@@ -20,39 +17,19 @@ onward-requires c =
     }
 
 pub loop-v-smaller : goal.loop-v-smaller
-loop-v-smaller c =
-    let s = c in
-    let l = c.loop-v in
-    let o = c.onward in
-    let g = subst (λ (r : Option Walk). Goes (ordinary s.args.cat.now) l.v r o.new.work)
-    c.in-Some.is o.ensures in
-    g.2
+loop-v-smaller c = c.in-Some.ensures.2
 
 pub loop-v-preserved : goal.loop-v-preserved
 loop-v-preserved c =
-    let s = c in
-    let l = c.loop-v in
-    let o = c.onward in
-    let g = subst (λ (r : Option Walk). Goes (ordinary s.args.cat.now) l.v r o.new.work)
-    c.in-Some.is o.ensures in
-    (l.invariant.0, stepping_on _ _ _ _ _ l.invariant.1 c.in-Some.next o.new.work g (search rules))
+    let i = c.loop-v.invariant in
+    (i.0, stepping_on _ _ _ _ _ i.1 c.in-Some.next c.onward.new.work c.in-Some.ensures (search rules))
 
 pub shape_of-work-in-None : goal.shape_of-work-in-None
-shape_of-work-in-None c =
-    omega (
-      arith,
-      c.loop-v.invariant.1.length,
-    )
+shape_of-work-in-None c = omega (arith, c.loop-v.invariant.1.length)
 
 pub returns-in-None : goal.returns-in-None
 returns-in-None c =
-    let t = c in
-    let l = t.loop-v in
-    let s = t in
-    let o = t.onward in
-    let g = subst (λ (r : Option Walk). Goes (ordinary s.args.cat.now) l.v r o.new.work)
-    t.in-None.is o.ensures in
-    step_done _ _ _ _ _ l.invariant.1 o.new.work g _ c.zero_words.ensures (search rules)
+    step_done _ _ _ _ _ c.loop-v.invariant.1 c.onward.new.work c.in-None.ensures _ c.zero_words.ensures (search rules)
 
 pub put-requires : goal.put-requires
 put-requires c = puts _ _ _ _ _ c.loop-v.invariant.1 (omega arith)

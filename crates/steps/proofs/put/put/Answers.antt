@@ -11,15 +11,15 @@ power-requires c =
     let s = c in
     omega (arith, put_lowest s.args.w s.requires, s.requires.members)
 
-pub overflow_sub-v : goal.overflow_sub-v
+pub overflow_sub-result : goal.overflow_sub-result
 unfolding lowest
-overflow_sub-v c =
+overflow_sub-result c =
     let s = c in
     omega (arith, put_power s.args.w s.requires, c.power.ensures)
 
-pub overflow_cast-result-2 : goal.overflow_cast-result-2
+pub overflow_cast-e-2 : goal.overflow_cast-e-2
 unfolding lowest
-overflow_cast-result-2 c =
+overflow_cast-e-2 c =
     let s = c in
     let h = put_right s.args.w s.requires _ c.right_at-right.ensures in
     search rules
