@@ -16,7 +16,7 @@ use Rattle.model.specs.Form.{document_at}
 use Rattle.model.specs.Convert.{Tag, tags_in, count_of, converted, taken, form_code, empty_code, fit_code, many_code}
 use Rattle.model.specs.Convert.{full_code}
 use Rattle.model.specs.declared.Refusal.TheVariants.{BadText, UnfitText, NoRoom}
-use Rattle.model.proofs.Grounds.{is_this, is_next}
+use Rattle.model.proofs.Grounds.{is_next}
 
 -- a table of the shape has rows, or none
 pub some_rows : (shape : List ℕ) (t : ℕ) {r : ℕ} → r ≡ rows shape t → (r ≡ 0 → ⊥)
@@ -64,11 +64,6 @@ pub good_text : (s shape : List ℕ) → (document_at s (taken false shape) ≡ 
 unfolding form_code
 good_text s shape n = if_eq_no (number BadText) (λ z. n (form_alike s shape [] ∙ z))
 
-pub shape_rows : (shape text : List ℕ) {r : ℕ} → r ≡ first_of (tables shape) 0 (empty_code shape) → (r ≡ 0 → ⊥)
-    → r ≡ fit_code shape text
-unfolding fit_code
-shape_rows shape text e n = is_this _ e n
-
 pub unfit_text_lem : (shape text : List ℕ) → first_of (tables shape) 0 (empty_code shape) ≡ 0
     → document_at text (taken true shape) ≡ 0 → number UnfitText ≡ fit_code shape text
 unfolding fit_code
@@ -80,11 +75,6 @@ unfolding fit_code
 fit_text shape text e n = is_next _ e (is_if_ne (number UnfitText) n refl)
 
 -- 22, from the counts and the size
-pub too_many : (shape text : List ℕ) (room : ℕ) {r : ℕ} → r ≡ first_of (tables shape) 0 (many_code (tags_in text))
-    → (r ≡ 0 → ⊥) → r ≡ full_code shape text room
-unfolding full_code
-too_many shape text room e n = is_this _ e n
-
 pub too_short : (shape text : List ℕ) (room : ℕ) {n : ℕ} → first_of (tables shape) 0 (many_code (tags_in text)) ≡ 0
     → n ≡ length (converted shape text) → room < n → number NoRoom ≡ full_code shape text room
 unfolding full_code

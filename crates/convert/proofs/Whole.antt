@@ -7,17 +7,15 @@ use native.Mathlib.Omega.{arith}
 use lib.ListN.{length, drop}
 use Rattle.columns.proofs.Test.{is_if_eq, is_if_ne}
 use Rattle.model.specs.Bounds.{row_bound}
-use Rattle.model.specs.Refusal.{last_refusal, or_else, first_of}
+use Rattle.model.specs.Refusal.{or_else, first_of}
 use Rattle.model.specs.Catalogue.{tables, columns}
 use Rattle.model.specs.Check.{Accepted, check_code}
-use Rattle.model.specs.Convert.{Tag, tags_in, count_of, converted, form_code, empty_code, fit_code, many_code}
+use Rattle.model.specs.Convert.{Tag, tags_in, count_of, converted, form_code, fit_code, many_code}
 use Rattle.model.specs.Convert.{full_code}
 use Rattle.model.specs.Convert.{convert_code, converted_output}
-use Rattle.model.proofs.Grounds.{or_else_left, or_else_assoc, or_else_le, first_of_le, first_of_each}
-use Rattle.model.proofs.Grounds.{if_eq_le, if_lt_le}
+use Rattle.model.proofs.Grounds.{or_else_left, or_else_assoc, first_of_each}
 use Rattle.model.proofs.Grounds.{or_else_right, if_lt_fails, is_this, is_next}
 use Rattle.model.proofs.Check.{accepted_tables, accepted_columns}
-use Rattle.grounds.proofs.Sound.{check_code_le}
 use Rattle.encoding.specs.Sizes.{size_of}
 use Rattle.tags.specs.Counts.{Counts}
 use Rattle.sheets.specs.Sheets.{size_in, sizes_in, file_size, Few}
@@ -39,28 +37,13 @@ pub convert_first : (shape text : List ℕ) (room : ℕ) {r : ℕ} → r ≡ tex
 convert_first shape text room e n =
     is_this (full_code shape text room) e n ∙ sym (convert_parts shape text room)
 
-pub convert_second : (shape text : List ℕ) (room : ℕ) {r : ℕ} → text_code shape text ≡ 0
+pub convert_second : (shape text : List ℕ) (room : ℕ) {r : ℕ} → 0 ≡ text_code shape text
     → r ≡ full_code shape text room → r ≡ convert_code shape text room
-convert_second shape text room z e = is_next (text_code shape text) z e ∙ sym (convert_parts shape text room)
-
--- their numbers
-pub text_code_le : (shape text : List ℕ) → text_code shape text ≤ last_refusal
-unfolding form_code fit_code empty_code
-text_code_le shape text =
-    or_else_le (omega (arith, check_code_le shape))
-    (or_else_le (if_eq_le _ _ (omega arith) (omega arith))
-    (or_else_le (first_of_le (tables shape) 0 _ (λ t. if_eq_le _ _ (omega arith) (omega arith)))
-    (if_eq_le _ _ (omega arith) (omega arith))))
-
-pub full_code_le : (shape text : List ℕ) (room : ℕ) → full_code shape text room ≤ last_refusal
-unfolding full_code many_code
-full_code_le shape text room =
-    or_else_le (first_of_le (tables shape) 0 _ (λ t. if_lt_le _ _ (omega arith) (omega arith)))
-    (if_lt_le _ _ (omega arith) (omega arith))
+convert_second shape text room z e = is_next (text_code shape text) (sym z) e ∙ sym (convert_parts shape text room)
 
 -- without a ground the shape is accepted, no table has too many rows, and there is room
-pub text_accepted : (shape text : List ℕ) → text_code shape text ≡ 0 → Accepted shape
-text_accepted shape text z = or_else_left _ _ z
+pub text_accepted : (shape text : List ℕ) → 0 ≡ text_code shape text → Accepted shape
+text_accepted shape text z = or_else_left _ _ (sym z)
 
 pub few_counted : (shape : List ℕ) (ts : List Tag) (counts : List ℕ) → Accepted shape → Counts ts counts
     → first_of (tables shape) 0 (many_code ts) ≡ 0 → Few shape counts
@@ -71,15 +54,16 @@ few_counted shape ts counts ok counted z t l =
     let few = if_lt_fails row_bound (count_of t ts) _ _ (omega arith) e in
     omega (arith, counted.each t (omega (arith, accepted_tables shape ok)))
 
-pub full_few : (shape text : List ℕ) (room : ℕ) → full_code shape text room ≡ 0
-    → first_of (tables shape) 0 (many_code (tags_in text)) ≡ 0
+pub few_converted : (shape text counts : List ℕ) (room : ℕ) → 0 ≡ text_code shape text
+    → 0 ≡ full_code shape text room → Counts (tags_in text) counts → Few shape counts
 unfolding full_code
-full_few shape text room z = or_else_left _ _ z
+few_converted shape text counts room fit full counted =
+    few_counted shape (tags_in text) counts (text_accepted shape text fit) counted (or_else_left _ _ (sym full))
 
-pub full_room : (shape text : List ℕ) (room : ℕ) → full_code shape text room ≡ 0
+pub full_room : (shape text : List ℕ) (room : ℕ) → 0 ≡ full_code shape text room
     → length (converted shape text) ≤ room
 unfolding full_code
-full_room shape text room z = if_lt_fails _ _ _ _ (omega arith) (or_else_right _ _ z)
+full_room shape text room z = if_lt_fails _ _ _ _ (omega arith) (or_else_right _ _ (sym z))
 
 -- the output: as it was after a ground, and else the catalogue and what stood behind
 pub output_kept : (shape text out : List ℕ) → (convert_code shape text (length out) ≡ 0 → ⊥)
