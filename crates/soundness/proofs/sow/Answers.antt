@@ -4,7 +4,7 @@ use Rattle.layout.specs.Targets.{view_of}
 use Rattle.soundness.proofs.sow.Goals as goal
 
 pub sow_among-requires : goal.sow_among-requires
-sow_among-requires c = ?
+sow_among-requires c = (c.members.ensures.few, c.requires.word, c.requires.few, c.rows.ensures.few, c.requires.fits)
 
 pub returns : goal.returns
 returns c = (
