@@ -12,4 +12,5 @@ pub stores : (l : List ℕ) (i e : ℕ) (vs : List ℕ) {ys : List ℕ} → ys �
     → put_mid i (e - i) l ys ≡ sets l i vs
 stores l i e vs {ys} w p h =
     put_mid-paste i (e - i) l ys vs (length vs) w (omega arith) refl
-    ∙ ap (λ (xs : List ℕ). take i l ++ xs ++ drop (i + length vs) l) (take-length vs) ∙ sym (sets-eq vs l i (omega arith))
+    ∙ ap (λ (xs : List ℕ). take i l ++ xs ++ drop (i + length vs) l) (take-length vs)
+    ∙ sym (sets-eq vs l i (omega arith))

@@ -135,7 +135,8 @@ fn check_extent(cat: &[u8], table: u32) -> Result<(), Refusal>
 // 7: a row of the root has a parent row, or another's is not below the parent table's rows.
 #[tactic(auto, using(crate::proofs::First::tests))]
 fn check_row(table: u32, up: u16, above: u16) -> Result<(), Refusal>
-    ensures { code_of result ≡ if_eq table 0 (if_eq up no_parent 0 (number BadParentRow)) (if_lt up above 0 (number BadParentRow)) }
+    ensures { code_of result
+        ≡ if_eq table 0 (if_eq up no_parent 0 (number BadParentRow)) (if_lt up above 0 (number BadParentRow)) }
 {
     if table == 0 {
         if up == NO_PARENT {

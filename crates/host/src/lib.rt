@@ -15,7 +15,7 @@ ghost use Rattle.model.specs.Convert.{convert_meaning, converted_output};
 ghost use Rattle.model.specs.Calls.{seen};
 ghost use Rattle.numbers.specs.Number.{number_of, value_or, status_of, found_of, list_seen};
 
-use model::{AskAnswer, CheckAnswer, ConvertAnswer, Entry, OpenAnswer, PairAnswer, VerifyAnswer};
+use model::Entry;
 
 // 0 for a catalogue, with its tables and the sets over all targets; the two are written only then.
 #[unsafe(no_mangle)]
@@ -25,12 +25,12 @@ pub extern "C" fn cagberin_check(cat: &[u8], tables: &mut u32, sets: &mut u32) -
     ensures sets_after { sets.new ≡ value_or 1 sets.old (check_meaning cat.now) }
 {
     match catalogue::check(cat) {
-        CheckAnswer::Sound { tables: t, sets: s } => {
-            *tables = t;
-            *sets = s;
+        Ok(c) => {
+            *tables = c.tables;
+            *sets = c.sets;
             0
         }
-        CheckAnswer::Refused(r) => numbers::negative(r),
+        Err(r) => numbers::negative(r),
     }
 }
 
@@ -49,9 +49,9 @@ pub extern "C" fn cagberin_ask(
         work.old }
 {
     match dependency::ask(cat, target, left, right, work) {
-        AskAnswer::Holds => 1,
-        AskAnswer::Breaks => 0,
-        AskAnswer::Refused(r) => numbers::negative(r),
+        Ok(true) => 1,
+        Ok(false) => 0,
+        Err(r) => numbers::negative(r),
     }
 }
 
@@ -79,16 +79,13 @@ pub extern "C" fn cagberin_pair(
         work.old }
 {
     match dependency::pair(cat, target, left, right, work) {
-        PairAnswer::Rows {
-            first: p,
-            second: q,
-        } => {
-            *first = p;
-            *second = q;
+        Ok(Some(rows)) => {
+            *first = rows.first;
+            *second = rows.second;
             1
         }
-        PairAnswer::Nothing => 0,
-        PairAnswer::Refused(r) => numbers::negative(r),
+        Ok(None) => 0,
+        Err(r) => numbers::negative(r),
     }
 }
 
@@ -100,14 +97,11 @@ pub extern "C" fn cagberin_open(file: &[u8], front: &mut usize) -> i64
     ensures front_after { front.new ≡ value_or 1 front.old (open_meaning file.now) }
 {
     match packed::open(file) {
-        OpenAnswer::Opened {
-            entries: k,
-            front: n,
-        } => {
-            *front = n;
-            k as i64
+        Ok(o) => {
+            *front = o.front;
+            i64::from(o.entries)
         }
-        OpenAnswer::Refused(r) => numbers::wide_negative(r),
+        Err(r) => i64::from(numbers::negative(r)),
     }
 }
 
@@ -120,7 +114,7 @@ pub extern "C" fn cagberin_read(file: &[u8], from: usize, run: &mut [Entry]) -> 
         × (run.new ≡ run_read file.now from run.old) }
 {
     let answer = packed::read(file, from, run);
-    numbers::read_number(answer)
+    numbers::count_number(answer)
 }
 
 // Lists from a place on: the number of entries, which stand at the start of the run, with the place reached and the
@@ -152,7 +146,7 @@ pub extern "C" fn cagberin_pack(entries: &[Entry], out: &mut [u8]) -> i64
         × (out.new ≡ output_after entries.now out.old) }
 {
     let answer = packed::pack(entries, out);
-    numbers::pack_number(answer)
+    numbers::count_number(answer)
 }
 
 // The number of entries of the packed list that ends a file, if these evidence records show that it is the full listing
@@ -162,11 +156,8 @@ pub extern "C" fn cagberin_verify(cat: &[u8], list: &[u8], evidence: &[u8]) -> i
     ensures { result ≡ number_of 0 (verify_meaning cat.now list.now evidence.now) }
 {
     match verify::verify(cat, list, evidence) {
-        VerifyAnswer::Accepted {
-            entries: k,
-            records: _,
-        } => k as i64,
-        VerifyAnswer::Refused(r) => numbers::wide_negative(r),
+        Ok(v) => i64::from(v.entries),
+        Err(r) => i64::from(numbers::negative(r)),
     }
 }
 
@@ -179,7 +170,7 @@ pub extern "C" fn cagberin_convert(shape: &[u8], text: &[u8], out: &mut [u8]) ->
     ensures out_after { out.new ≡ converted_output shape.now text.now out.old }
 {
     match convert::convert(shape, text, out) {
-        ConvertAnswer::Converted { bytes: n } => n as i64,
-        ConvertAnswer::Refused(r) => numbers::wide_negative(r),
+        Ok(bytes) => i64::from(bytes),
+        Err(r) => i64::from(numbers::negative(r)),
     }
 }

@@ -62,9 +62,9 @@ pub handed_first : {A : Type 0} (r : Result A Refusal) (why : Refusal) {a : ℕ}
 handed_first r why b h e = handed_on r why h (refused_first _ b e)
 
 -- and what a call replies that gives it back
-pub handed_reply : {A : Type 0} (reply : Result A Refusal → Reply) → ((e : Refusal) → reply (Err e) ≡ refused (number e))
-    → (r : Result A Refusal) (why : Refusal) {code : ℕ} (values : List ℕ) → IsErrAnd r (λ e. e ≡ why) → number why ≡ code
-    → reply r ≡ reply_of code values
+pub handed_reply : {A : Type 0} (reply : Result A Refusal → Reply)
+    → ((e : Refusal) → reply (Err e) ≡ refused (number e)) → (r : Result A Refusal) (why : Refusal) {code : ℕ}
+    (values : List ℕ) → IsErrAnd r (λ e. e ≡ why) → number why ≡ code → reply r ≡ reply_of code values
 handed_reply reply each (Ok x) why values h e = absurd h
 handed_reply reply each (Err y) why values h e =
     each y ∙ reply_refused values (ap number h ∙ e) (number_pos y)

@@ -15,11 +15,11 @@ use model::{ROW, Refusal, WORK_BOUND};
 const LEFT_BITS: u32 = 32;
 
 // 8: the target is not below the number of tables.
+#[tactic(auto, using(grounds::proofs::First::tests), unfolding(model::specs::Question::target_code))]
 fn check_target(cat: &[u8], target: u32) -> Result<(), Refusal>
     ensures { code_of result ≡ target_code cat.now target }
 {
-    let t = u32::from(tables(cat));
-    if target < t {
+    if target < u32::from(tables(cat)) {
         return Ok(());
     }
     Err(Refusal::UnknownTable)
@@ -40,6 +40,7 @@ fn check_left(cat: &[u8], target: u32, left: u32) -> Result<(), Refusal>
 }
 
 // 10: the right side is neither an own column nor the row.
+#[tactic(auto, using(grounds::proofs::First::tests), unfolding(model::specs::Question::right_side_code))]
 fn check_right(cat: &[u8], target: u32, right: u32) -> Result<(), Refusal>
     ensures { code_of result ≡ right_side_code cat.now target right }
 {
@@ -56,6 +57,7 @@ fn check_right(cat: &[u8], target: u32, right: u32) -> Result<(), Refusal>
 }
 
 // 11: too few work words.
+#[tactic(auto, using(grounds::proofs::First::tests), unfolding(model::specs::Question::words_code))]
 fn check_words(words: usize) -> Result<(), Refusal>
     ensures { code_of result ≡ words_code words }
 {
@@ -66,6 +68,7 @@ fn check_words(words: usize) -> Result<(), Refusal>
 }
 
 // The first ground against a target and two sides of it: 8, then 9, then 10.
+#[tactic(auto, using(model::proofs::Codes::tries), unfolding(model::specs::Question::sides_code))]
 fn check_sides(cat: &[u8], target: u32, left: u32, right: u32) -> Result<(), Refusal>
     ensures { code_of result ≡ sides_code cat.now target left right }
 {
@@ -75,6 +78,7 @@ fn check_sides(cat: &[u8], target: u32, left: u32, right: u32) -> Result<(), Ref
 }
 
 // The first ground against a question: those of the check, then 8 to 10, then 11.
+#[tactic(auto, using(model::proofs::Codes::tries), unfolding(model::specs::Question::question_code))]
 pub fn check(cat: &[u8], target: u32, left: u32, right: u32, words: usize) -> Result<(), Refusal>
     ensures { code_of result ≡ question_code cat.now target left right words }
 {

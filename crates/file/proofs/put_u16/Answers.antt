@@ -7,4 +7,6 @@ use Rattle.file.proofs.put_u16.Goals as goal
 
 pub returns : goal.returns
 unfolding bytes2
-returns c = stores _ _ _ (bytes2 c.args.x) (c.copy_from_slice.ensures.after ∙ ap (take 2) c.to_le_bytes.ensures) refl c.requires
+returns c =
+    let put = c.copy_from_slice.ensures.after ∙ ap (take 2) c.to_le_bytes.ensures in
+    stores _ _ _ (bytes2 c.args.x) put refl c.requires

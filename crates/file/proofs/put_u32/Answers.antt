@@ -7,4 +7,6 @@ use Rattle.file.proofs.put_u32.Goals as goal
 
 pub returns : goal.returns
 unfolding bytes4
-returns c = stores _ _ _ (bytes4 c.args.x) (c.copy_from_slice.ensures.after ∙ ap (take 4) c.to_le_bytes.ensures) refl c.requires
+returns c =
+    let put = c.copy_from_slice.ensures.after ∙ ap (take 4) c.to_le_bytes.ensures in
+    stores _ _ _ (bytes4 c.args.x) put refl c.requires

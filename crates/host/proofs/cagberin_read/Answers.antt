@@ -3,5 +3,5 @@ use Rattle.std.proofs.Common.{arith}
 use Rattle.host.proofs.Fits.{read_fits}
 use Rattle.host.proofs.cagberin_read.Goals as goal
 
-pub read_number-requires : goal.read_number-requires
-read_number-requires c = read_fits _ _ _ _ (omega arith) c.read-answer.ensures.0
+pub count_number-requires : goal.read_number-requires
+count_number-requires c = read_fits _ _ _ _ (omega arith) c.read-answer.ensures.0
