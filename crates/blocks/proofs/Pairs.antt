@@ -52,7 +52,8 @@ pub record LeftsBelow (n first x j : ℕ) (before after : List ℕ) : Type 0 whe
   pub lefts : (i : ℕ) → i < j → word after (left_at n i) < 2 ^ n
   pub none : (i : ℕ) → i < j → word after (suc (left_at n i)) ≡ 0
 
-module _ (n first x j at y : ℕ) (before after : List ℕ) (is : at ≡ left_at n j) (fits : left_at n (suc j) ≤ length before)
+module _ (n first x j at y : ℕ) (before after : List ℕ) (is : at ≡ left_at n j)
+    (fits : left_at n (suc j) ≤ length before)
     (below : y < 2 ^ n) (l : LeftsBelow n first x j before after) where
   abbrev new : List ℕ
   new = set (set after at x) (at + 1) 0
@@ -151,7 +152,8 @@ adding_index n a j at count plane before after h is l enough p b =
     let s = p.lefts j l in
     omega (arith, power_words n h)
 
-pub adding_fits : (n a j at count x r : ℕ) (plane before after : List ℕ) → a ≤ column_bound → at ≡ left_at n j → j < count
+pub adding_fits : (n a j at count x r : ℕ) (plane before after : List ℕ) → a ≤ column_bound → at ≡ left_at n j
+    → j < count
     → PairsBelow n a count before → AddedBelow n a j plane before after → Added plane x a r
     → word after (at + 1) + r < 2 ^ 32
 adding_fits n a j at count x r plane before after h is l p b d =

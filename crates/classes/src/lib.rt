@@ -1,7 +1,6 @@
 // Not for callers: the classes of rows that have the same key on a member, numbered in a byte each, for the members
 // with at most 256 of them. Rows are then compared by bytes, twice as many at a time as by keys.
-// Relies on the definitions of `leaders` for keys and on a law of `filled`. Called by `scan`; `lines` reads the
-// numbers.
+// Relies on the definitions of `leaders` for keys. Called by `scan`; `lines` reads the numbers.
 #![tactic(auto)]
 
 ghost use Rattle.std.specs.Prelude.{◌+◌, ◌≤◌, ◌<◌, ◌≡◌, true, IfSome};

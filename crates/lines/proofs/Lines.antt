@@ -50,7 +50,8 @@ pub record Ahead (q end : ℕ) (before line : List ℕ) : Type 0 where
   pub as_was : (j : ℕ) → q ≤ j → j < end → word line j ≡ word before j
 
 -- a set with the next number joined to it, or not
-pub or_next : (f : ℕ → Bool) (k s r : ℕ) → s ≡ set_below k f → r ≡ pick (f k) (2 ^ k) 0 → bit_or s r ≡ set_below (suc k) f
+pub or_next : (f : ℕ → Bool) (k s r : ℕ) → s ≡ set_below k f → r ≡ pick (f k) (2 ^ k) 0
+    → bit_or s r ≡ set_below (suc k) f
 unfolding set_below
 or_next f k s r e g = ap₂ bit_or e g ∙ at (f k)
   where
@@ -151,12 +152,14 @@ or_one n k f g l z e = at (g k) refl
         subst (λ (j : ℕ). bit (bit_or (set_below n f) (2 ^ k)) j ≡ bit (set_below n g) j) (sym w)
         (bit_with_same (set_below n f) k ∙ sym (set_below_bit n g k l ∙ ap (λ (t : Bool). pick {A = ℕ} t 1 0) u))
     bits i m u (no d) =
-        bit_with_other (set_below n f) i k d ∙ set_below_bit n f i m ∙ ap (λ (t : Bool). pick {A = ℕ} t 1 0) (sym (e i d))
+        bit_with_other (set_below n f) i k d ∙ set_below_bit n f i m
+        ∙ ap (λ (t : Bool). pick {A = ℕ} t 1 0) (sym (e i d))
         ∙ sym (set_below_bit n g i m)
 
     at : (t : Bool) → g k ≡ t → bit_or (set_below n f) (pick t (2 ^ k) 0) ≡ set_below n g
     at true u =
-        bits_same n (bit_or (set_below n f) (2 ^ k)) (set_below n g) (with_below n (set_below n f) k (set_below_lt n f) l)
+        bits_same n (bit_or (set_below n f) (2 ^ k)) (set_below n g)
+        (with_below n (set_below n f) k (set_below_lt n f) l)
         (set_below_lt n g)
         (λ i m. bits i m u (ℕ_discrete i k))
     at false u = or_zero_r (set_below n f) ∙ set_below_same n f g (λ i m. others i u (ℕ_discrete i k))
@@ -255,7 +258,8 @@ pub line_parts : (bytes : List ℕ) (few x : ℕ) {end : ℕ} (low high : List �
 line_parts bytes few x low high part other h =
     line_as (numbered_at bytes few x) (λ q k m. parts_are bytes low high few x q (part.at q k m) (other.at q k m)) h
 
-pub line_none : (keys bytes : List ℕ) (few x : ℕ) {end : ℕ} {line : List ℕ} → LineOf (numbered_at bytes few x) x end line
+pub line_none : (keys bytes : List ℕ) (few x : ℕ) {end : ℕ} {line : List ℕ}
+    → LineOf (numbered_at bytes few x) x end line
     → LineOf (met_at keys bytes few 0 x) x end line
 line_none keys bytes few x h = line_as (met_at keys bytes few 0 x) (λ q k m. met_none keys bytes few x q) h
 

@@ -31,7 +31,8 @@ noted_none line seen from = record {
   noted = λ s. (λ e. inl e, λ f. ⊎_elim (λ e. e) (λ g. absurd (omega (arith, g.1, g.2))) f);
 }
 
-pub noted_more : {line : List ℕ} {before seen after : List Bool} {from q : ℕ} → from ≤ q → SetNoted (word line q) seen after
+pub noted_more : {line : List ℕ} {before seen after : List Bool} {from q : ℕ} → from ≤ q
+    → SetNoted (word line q) seen after
     → LineNoted line from q before seen → LineNoted line from (q + 1) before after
 noted_more {line} {before} {seen} {after} {from} {q} l one h = record {
   same_length = one.same_length ∙ h.same_length;

@@ -32,7 +32,8 @@ fn gathered(seen: &[bool; SETS], i: u32) -> u32
     w
 }
 
-// Writes the bits of all agree sets of n members.
+// Writes the bits of all agree sets of n members. One function with `write_broken`, over a closure, would be no
+// plainer: each is a loop of one line.
 fn write_seeds(seen: &[bool; SETS], n: u32, words: &mut [u32])
     requires { (5 ≤ n) × (n ≤ column_bound) × (seed_words n ≤ length words.old) }
     ensures { Filled 0 (seed_words n) (plane_word (seen_at seen.now)) words.old
