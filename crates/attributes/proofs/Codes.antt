@@ -1,7 +1,7 @@
 -- The codes of a row, stored attribute by attribute.
-use Prim.Native.Nat.{ℕ, ◌+◌, ◌≤◌, ◌<◌}
+use Prim.Native.Nat.{ℕ, ◌<◌}
 use mathlib.Core.Path.{◌≡◌, sym, ap, ◌∙◌}
-use mathlib.Core.List.{List}
+use mathlib.Core.List.{List, []}
 use native.Mathlib.Decide.{ℕ_discrete}
 use native.Mathlib.Omega.{arith}
 use lib.ListN.{length, drop, get_or, set, replicate, length-set, length-replicate, get_or-replicate}
@@ -14,13 +14,13 @@ use Rattle.model.specs.Forest.{value_or}
 use Rattle.model.specs.Form.{number_in, capped, quoted_in, cells_in}
 use Rattle.attributes.specs.Tags.{NextAttribute, Codes}
 use Rattle.attributes.proofs.Digits.{capped_small, capped_is}
-use Rattle.attributes.proofs.Tags.{Passing, passing_at, passing_on, passing_done}
+use Rattle.attributes.proofs.Tags.{passing_at, passing_done}
 
--- a loop that stores the codes of the tag from p on, at i: the attributes from here on change each as all do
-pub record Storing (s : List ℕ) (p : ℕ) (codes : List ℕ) (i : ℕ) : Type 0 where
+-- a loop that stores the codes of the tag from p on, at q: the attributes from q on change each as all do
+pub record Storing (s : List ℕ) (p : ℕ) (codes : List ℕ) (q : ℕ) : Type 0 where
   pub size : length codes ≡ column_bound
   pub each : (k : ℕ) → k < column_bound
-      → Passing (value_or k (get_or codes k 0)) (value_or k missing (cells_in (drop p s))) s i
+      → value_or k (get_or codes k 0) (cells_in (drop q s)) ≡ value_or k missing (cells_in (drop p s))
 
 -- a column below the bound gets the code if its number is read, and else keeps its own
 stored : (codes : List ℕ) (k n m x : ℕ) → k < length codes → k < missing → m ≡ capped n
@@ -36,31 +36,31 @@ stored codes k n m x h l e = at (ℕ_discrete m k)
         ∙ sym (if_eq_no x (λ g. f (e ∙ sym (capped_small (omega arith)) ∙ g)))
 
 module _ (s : List ℕ) (p : ℕ) where
-  pub storing_begun : {i : ℕ} → NextAttribute s p i → Storing s p (replicate column_bound missing) i
-  storing_begun n =
+  pub storing_begun : Storing s p (replicate column_bound missing) p
+  storing_begun =
       record {
         size = length-replicate column_bound missing;
         each = λ k h.
-            passing_on _ s n
-            (ap (λ (x : ℕ). value_or k x (cells_in (drop p s))) (get_or-replicate column_bound k missing 0 h));
+            ap (λ (x : ℕ). value_or k x (cells_in (drop p s))) (get_or-replicate column_bound k missing 0 h);
       }
 
-  pub storing_more : {codes after : List ℕ} {i j m x : ℕ} → Storing s p codes i → i < length s
-      → m ≡ capped (number_in (drop (i + 1) s)) → x ≡ capped (quoted_in (drop (i + 1) s)) → after ≡ set codes m x
-      → NextAttribute s (i + 1) j → Storing s p after j
+  pub storing_more : {codes after : List ℕ} {q i m x : ℕ} → Storing s p codes q → NextAttribute s q i
+      → m ≡ capped (number_in (drop i s)) → x ≡ capped (quoted_in (drop i s)) → after ≡ set codes m x
+      → Storing s p after i
   unfolding value_or
-  storing_more {codes} {after} {i} {m = m} {x = x} w h e f g n =
+  storing_more {codes} {after} {q} {i} {m} {x} w n e f g =
       record {
         size = ap length g ∙ length-set codes m x ∙ w.size;
-        each = λ k l. passing_on (value_or k (get_or after k 0)) s n
-            (ap (λ (y : ℕ). value_or k y (cells_in (drop (i + 1) s)))
+        each = λ k l.
+            ap (λ (y : ℕ). value_or k y (cells_in (drop i s)))
             (ap (λ (c : List ℕ). get_or c k 0) g
-            ∙ stored codes k (number_in (drop (i + 1) s)) m x (omega (arith, w.size)) (omega arith) e
-            ∙ ap (λ (y : ℕ). if_eq (number_in (drop (i + 1) s)) k y (get_or codes k 0)) f)
-            ∙ passing_at _ s (w.each k l) h);
+            ∙ stored codes k (number_in (drop i s)) m x (omega (arith, w.size)) (omega arith) e
+            ∙ ap (λ (y : ℕ). if_eq (number_in (drop i s)) k y (get_or codes k 0)) f)
+            ∙ passing_at (value_or k (get_or codes k 0)) s q n (w.each k l);
       }
 
-  pub storing_done : {codes : List ℕ} {i : ℕ} → Storing s p codes i → length s ≤ i
+  pub storing_done : {codes : List ℕ} {q : ℕ} → Storing s p codes q → cells_in (drop q s) ≡ []
       → Codes (cells_in (drop p s)) codes
   unfolding value_or
-  storing_done w h = record { size = w.size; each = λ k l. passing_done _ s (w.each k l) h }
+  storing_done {codes} {q} w h =
+      record { size = w.size; each = λ k l. passing_done (value_or k (get_or codes k 0)) s q h (w.each k l) }

@@ -6,7 +6,7 @@ use mathlib.Core.List.{List, [], ◌∷◌}
 use native.Mathlib.Decide.{dec_lt, dec_le}
 use native.Mathlib.Omega.{arith}
 use lib.Dec.{leb}
-use lib.ListN.{length, get_or, drop, drop_of_length-le}
+use lib.ListN.{length, get_or, drop, drop_of_length-le, get_or-eq_default}
 use lib.Seq.{drop-cons, drop-drop}
 use borrow.Author.Tests.{le-leb, lt-leb}
 use Rattle.columns.specs.Test.{pick}
@@ -15,29 +15,40 @@ use Rattle.model.specs.Bounds.{missing}
 use Rattle.model.specs.Form.{is_digit, number_from, number_in, capped}
 use Rattle.attributes.specs.Digits.{digit_in}
 
--- the digit at a position: 10 past the end and for a byte that is none
-pub digit_past : (s : List ℕ) (i : ℕ) → length s ≤ i → 10 ≡ digit_in (drop i s)
+pub digit_past : (s : List ℕ) (i : ℕ) → length s ≤ i → digit_in (drop i s) ≡ 10
 unfolding digit_in
-digit_past s i h = ap digit_in (sym (drop_of_length-le s h))
+digit_past s i h = ap digit_in (drop_of_length-le s h)
 
 digit_here : (s : List ℕ) (i : ℕ) → i < length s
     → digit_in (drop i s) ≡ pick (is_digit (get_or s i 0)) (get_or s i 0 - 48) 10
 unfolding digit_in
 digit_here s i h = ap digit_in (drop-cons s i 0 h)
 
-as_pick : (x : ℕ) {t u : Bool} → t ≡ u → pick t x 10 ≡ pick u x 10
-as_pick x e = ap (λ (b : Bool). pick b x 10) e
+-- the digit at a position, by the byte there: 10 past the end and for a byte that is none
+digit_by : (s : List ℕ) (i : ℕ) → digit_in (drop i s) ≡ pick (is_digit (get_or s i 0)) (get_or s i 0 - 48) 10
+digit_by s i = at (dec_lt i (length s))
+  where
+    at : Dec (i < length s) → digit_in (drop i s) ≡ pick (is_digit (get_or s i 0)) (get_or s i 0 - 48) 10
+    at (yes l) = digit_here s i l
+    at (no l) =
+        digit_past s i (omega arith)
+        ∙ sym (ap (λ (x : ℕ). pick (is_digit x) (x - 48) 10) (get_or-eq_default s 0 (omega arith)))
 
-pub digit_low : (s : List ℕ) (i : ℕ) → i < length s → get_or s i 0 < 48 → 10 ≡ digit_in (drop i s)
-digit_low s i h l = sym (digit_here s i h ∙ as_pick _ (ap (λ (b : Bool). b && leb (get_or s i 0) 57) (lt-leb 48 _ l)))
+module _ (s : List ℕ) (i : ℕ) where
+  pub digit_low : get_or s i 0 < 48 → digit_in (drop i s) ≡ 10
+  digit_low l =
+      digit_by s i ∙ ap (λ (b : Bool). pick (b && leb (get_or s i 0) 57) (get_or s i 0 - 48) 10) (lt-leb 48 _ l)
 
-pub digit_high : (s : List ℕ) (i : ℕ) → i < length s → 57 < get_or s i 0 → 10 ≡ digit_in (drop i s)
-digit_high s i h l =
-    sym (digit_here s i h ∙ as_pick _ (ap₂ ◌&&◌ (le-leb 48 (get_or s i 0) (omega arith)) (lt-leb _ 57 l)))
+  pub digit_high : 57 < get_or s i 0 → digit_in (drop i s) ≡ 10
+  digit_high l =
+      digit_by s i
+      ∙ ap (λ (b : Bool). pick b (get_or s i 0 - 48) 10)
+      (ap₂ ◌&&◌ (le-leb 48 (get_or s i 0) (omega arith)) (lt-leb _ 57 l))
 
-pub digit_is : (s : List ℕ) (i : ℕ) → i < length s → 48 ≤ get_or s i 0 → get_or s i 0 ≤ 57
-    → get_or s i 0 - 48 ≡ digit_in (drop i s)
-digit_is s i h l m = sym (digit_here s i h ∙ as_pick _ (ap₂ ◌&&◌ (le-leb 48 _ l) (le-leb _ 57 m)))
+  pub digit_is : 48 ≤ get_or s i 0 → get_or s i 0 ≤ 57 → get_or s i 0 - 48 ≡ digit_in (drop i s)
+  digit_is l m =
+      sym (digit_by s i
+      ∙ ap (λ (b : Bool). pick b (get_or s i 0 - 48) 10) (ap₂ ◌&&◌ (le-leb 48 _ l) (le-leb _ 57 m)))
 
 -- a digit stands before the end
 pub digit_within : (s : List ℕ) (i : ℕ) → digit_in (drop i s) < 10 → i < length s
@@ -127,31 +138,25 @@ capped_least {r} {n} {k} e m h = at (dec_lt n missing)
     at (yes l) = omega (arith, capped_small l)
     at (no l) = omega arith
 
--- a loop that reads the number at p, at i: n is read so far, below the cap, and d is the next digit
-pub record Reading (s : List ℕ) (p n i d : ℕ) : Type 0 where
+-- a loop that reads the number at p, at i: n is read so far, below the cap
+pub record Reading (s : List ℕ) (p n i : ℕ) : Type 0 where
   pub small : n < missing
   pub whole : number_from n (drop i s) ≡ number_in (drop p s)
-  pub digit : d ≡ digit_in (drop i s)
 
 module _ (s : List ℕ) (p : ℕ) where
-  pub reading_begun : {d : ℕ} → d ≡ digit_in (drop p s) → Reading s p 0 p d
-  reading_begun e = record { small = omega arith; whole = refl; digit = e }
+  pub reading_begun : Reading s p 0 p
+  reading_begun = record { small = omega arith; whole = refl }
 
-  pub reading_within : {n i d : ℕ} → Reading s p n i d → d < 10 → i < length s
-  reading_within {i = i} h l = digit_within s i (omega (arith, h.digit))
+  pub reading_more : {n i d : ℕ} → Reading s p n i → d ≡ digit_in (drop i s) → d < 10 → 10 * n + d < missing
+      → Reading s p (10 * n + d) (i + 1)
+  reading_more {n} {i} h e l m = record { small = m; whole = number_digit n s i e l ∙ h.whole }
 
-  pub reading_more : {n i d e : ℕ} → Reading s p n i d → d < 10 → 10 * n + d < missing
-      → e ≡ digit_in (drop (i + 1) s) → Reading s p (10 * n + d) (i + 1) e
-  reading_more {n} {i} h l m f =
-      record { small = m; whole = number_digit n s i h.digit l ∙ h.whole; digit = f }
-
-  pub reading_full : {n i d : ℕ} → Reading s p n i d → d < 10 → missing ≤ 10 * n + d
+  pub reading_full : {n i d : ℕ} → Reading s p n i → d ≡ digit_in (drop i s) → d < 10 → missing ≤ 10 * n + d
       → missing ≡ capped (number_in (drop p s))
-  reading_full {n} {i} {d} h l m =
-      let e = number_digit n s i h.digit l ∙ h.whole in
+  reading_full {n} {i} {d} h f l m =
+      let e = number_digit n s i f l ∙ h.whole in
       capped_large (omega (arith, number_least (10 * n + d) (drop (i + 1) s)))
 
-  pub reading_done : {n i d : ℕ} → Reading s p n i d → 10 ≤ d → n ≡ capped (number_in (drop p s))
-  reading_done {n} {i} h l =
-      capped_small h.small
-      ∙ ap capped (sym (number_ended n (drop i s) (omega (arith, h.digit))) ∙ h.whole)
+  pub reading_done : {n i : ℕ} → Reading s p n i → digit_in (drop i s) ≡ 10 → n ≡ capped (number_in (drop p s))
+  reading_done {n} {i} h e =
+      capped_small h.small ∙ ap capped (sym (number_ended n (drop i s) (omega arith)) ∙ h.whole)

@@ -1,5 +1,5 @@
 -- No attribute twice: those seen so far, and one attribute after the other.
-use Prim.Native.Nat.{ℕ, ◌+◌, ◌≤◌, ◌<◌}
+use Prim.Native.Nat.{ℕ, ◌≤◌, ◌<◌}
 use mathlib.Core.Path.{◌≡◌, refl, sym, ap, ap₂, ◌∙◌}
 use mathlib.Core.Bool.{Bool, true, false, ◌&&◌, not}
 use mathlib.Core.List.{List, [], ◌∷◌}
@@ -15,7 +15,7 @@ use Rattle.model.specs.Xml.{is_fresh}
 use Rattle.model.specs.Form.{number_in, capped, cells_in, is_distinct}
 use Rattle.attributes.specs.Tags.{cells_at, NextAttribute, unseen, distinct_beside, Noted}
 use Rattle.attributes.proofs.Digits.{capped_is, capped_least}
-use Rattle.attributes.proofs.Tags.{Passing, passing_at, passing_on, passing_done}
+use Rattle.attributes.proofs.Tags.{passing_at, passing_done}
 
 -- conjunctions in another order
 swap : (f z n : Bool) → z && (f && n) ≡ f && (z && n)
@@ -46,46 +46,46 @@ pub fresh_by : (s : List ℕ) (p k : ℕ) {r t : Bool} → r ≡ eqb (number_in 
 fresh_by s p k e h = ap (λ (b : Bool). not b && is_fresh k (cells_in (drop p s))) (sym e ∙ h)
 
 -- where nothing is seen, there is none of it
-clear_at : (n k : ℕ) → ◌≡◌ {A = ℕ} (get_or (replicate n 0) k 0) 0
+clear_at : (n k : ℕ) → get_or (replicate n false) k false ≡ false
 clear_at n k = at (dec_lt k n)
   where
-    at : Dec (k < n) → ◌≡◌ {A = ℕ} (get_or (replicate n 0) k 0) 0
-    at (yes h) = get_or-replicate n k 0 0 h
-    at (no h) = get_or-eq_default (replicate n 0) 0 (rw (length-replicate {A = ℕ} n 0) (omega arith))
+    at : Dec (k < n) → get_or (replicate n false) k false ≡ false
+    at (yes h) = get_or-replicate n k false false h
+    at (no h) = get_or-eq_default (replicate n false) false (rw (length-replicate {A = Bool} n false) (omega arith))
 
-unseen_clear : (n : ℕ) (cs : Cells) → unseen (replicate n 0) cs ≡ true
+unseen_clear : (n : ℕ) (cs : Cells) → unseen (replicate n false) cs ≡ true
 unfolding unseen
 unseen_clear n [] = refl
-unseen_clear n (c ∷ cs) = ap₂ ◌&&◌ (eq-eqb _ 0 (clear_at n c.0)) (unseen_clear n cs)
+unseen_clear n (c ∷ cs) = ap₂ ◌&&◌ (ap not (clear_at n c.0)) (unseen_clear n cs)
 
-distinct_clear : (n : ℕ) (cs : Cells) → distinct_beside (replicate n 0) cs ≡ is_distinct cs
+distinct_clear : (n : ℕ) (cs : Cells) → distinct_beside (replicate n false) cs ≡ is_distinct cs
 unfolding distinct_beside
 distinct_clear n cs = ap (λ (b : Bool). is_distinct cs && b) (unseen_clear n cs) ∙ true_after (is_distinct cs)
 
 -- one column more is seen
-unseen_more : (seen : List ℕ) (k : ℕ) → k < length seen → (cs : Cells)
-    → unseen (set seen k 1) cs ≡ is_fresh k cs && unseen seen cs
+unseen_more : (seen : List Bool) (k : ℕ) → k < length seen → (cs : Cells)
+    → unseen (set seen k true) cs ≡ is_fresh k cs && unseen seen cs
 unfolding unseen
 unseen_more seen k h [] = refl
 unseen_more seen k h (c ∷ cs) = at (ℕ_discrete c.0 k) (unseen_more seen k h cs)
   where
     decided : Bool → Bool
-    decided b = (not b && is_fresh k cs) && (eqb (get_or seen c.0 0) 0 && unseen seen cs)
+    decided b = (not b && is_fresh k cs) && (not (get_or seen c.0 false) && unseen seen cs)
 
-    at : Dec (c.0 ≡ k) → unseen (set seen k 1) cs ≡ is_fresh k cs && unseen seen cs
-        → eqb (get_or (set seen k 1) c.0 0) 0 && unseen (set seen k 1) cs
+    at : Dec (c.0 ≡ k) → unseen (set seen k true) cs ≡ is_fresh k cs && unseen seen cs
+        → not (get_or (set seen k true) c.0 false) && unseen (set seen k true) cs
         ≡ decided (eqb c.0 k)
     at (yes e) r =
-        ap (λ (x : ℕ). eqb x 0 && unseen (set seen k 1) cs)
-        (ap (λ (j : ℕ). get_or (set seen k 1) j 0) e ∙ get_or-set_same seen k 1 0 h)
+        ap (λ (x : Bool). not x && unseen (set seen k true) cs)
+        (ap (λ (j : ℕ). get_or (set seen k true) j false) e ∙ get_or-set_same seen k true false h)
         ∙ sym (ap decided (eq-eqb _ k e))
     at (no e) r =
-        ap₂ (λ (x : ℕ) (b : Bool). eqb x 0 && b) (get_or-set_other seen k c.0 1 0 e) r
-        ∙ swap (is_fresh k cs) (eqb (get_or seen c.0 0) 0) (unseen seen cs)
+        ap₂ (λ (x : Bool) (b : Bool). not x && b) (get_or-set_other seen k c.0 true false e) r
+        ∙ swap (is_fresh k cs) (not (get_or seen c.0 false)) (unseen seen cs)
         ∙ sym (ap decided (ne_eqb _ k e))
 
 -- the answer on one attribute: a high column is looked for in the rest, and a low one among those seen
-module _ (s : List ℕ) (p : ℕ) (seen : List ℕ) where
+module _ (s : List ℕ) (p : ℕ) (seen : List Bool) where
   pub noted_high : {k : ℕ} {r : Bool} → length seen ≡ column_bound → k ≡ capped (number_in (drop p s)) → column_bound ≤ k
       → r ≡ not (is_fresh (number_in (drop p s)) (cells_in (drop p s))) → Noted s p seen seen r
   unfolding distinct_beside is_distinct unseen
@@ -96,21 +96,21 @@ module _ (s : List ℕ) (p : ℕ) (seen : List ℕ) where
       record {
         same_length = refl;
         decides =
-            ap (λ (x : ℕ). (is_fresh n cs && is_distinct cs) && (eqb x 0 && unseen seen cs))
-            (get_or-eq_default seen 0 out)
+            ap (λ (x : Bool). (is_fresh n cs && is_distinct cs) && (not x && unseen seen cs))
+            (get_or-eq_default seen false out)
             ∙ regroup (is_fresh n cs) (is_distinct cs) (unseen seen cs)
             ∙ ap (λ (b : Bool). b && (is_distinct cs && unseen seen cs)) (sym (ap not a ∙ not_not (is_fresh n cs)));
       }
 
   pub noted_low : {k : ℕ} {r : Bool} → length seen ≡ column_bound → k ≡ capped (number_in (drop p s)) → k < column_bound
-      → r ≡ not (eqb (get_or seen k 0) 0) → Noted s p seen (set seen k 1) r
+      → r ≡ get_or seen k false → Noted s p seen (set seen k true) r
   unfolding distinct_beside is_distinct unseen
   noted_low {k} {r} l e h a =
       record {
-        same_length = length-set seen k 1;
+        same_length = length-set seen k true;
         decides =
             ap at (capped_is e (omega arith)) ∙ sorted f d z u
-            ∙ ap₂ (λ (x y : Bool). x && (d && y)) (sym (ap not a ∙ not_not z))
+            ∙ ap₂ (λ (x y : Bool). x && (d && y)) (sym (ap not a))
             (sym (unseen_more seen k (omega arith) cs));
       }
     where
@@ -124,42 +124,42 @@ module _ (s : List ℕ) (p : ℕ) (seen : List ℕ) where
       d = is_distinct cs
 
       z : Bool
-      z = eqb (get_or seen k 0) 0
+      z = not (get_or seen k false)
 
       u : Bool
       u = unseen seen cs
 
       at : ℕ → Bool
-      at n = (is_fresh n cs && d) && (eqb (get_or seen n 0) 0 && u)
+      at n = (is_fresh n cs && d) && (not (get_or seen n false) && u)
 
--- a loop over the attributes of the tag from p on, at i: those from here on, beside the seen ones, decide
-pub record Sifting (s : List ℕ) (p : ℕ) (seen : List ℕ) (i : ℕ) : Type 0 where
+-- a loop over the attributes of the tag from p on, at q: those from q on, beside the seen ones, decide
+pub record Sifting (s : List ℕ) (p : ℕ) (seen : List Bool) (q : ℕ) : Type 0 where
   pub size : length seen ≡ column_bound
-  pub passing : Passing (distinct_beside seen) (is_distinct (cells_in (drop p s))) s i
+  pub decides : distinct_beside seen (cells_in (drop q s)) ≡ is_distinct (cells_in (drop p s))
 
 module _ (s : List ℕ) (p : ℕ) where
-  pub sifting_begun : {i : ℕ} → NextAttribute s p i → Sifting s p (replicate column_bound 0) i
-  sifting_begun n =
+  pub sifting_begun : Sifting s p (replicate column_bound false) p
+  sifting_begun =
       record {
-        size = length-replicate {A = ℕ} column_bound 0;
-        passing = passing_on _ s n (distinct_clear column_bound (cells_in (drop p s)));
+        size = length-replicate {A = Bool} column_bound false;
+        decides = distinct_clear column_bound (cells_in (drop p s));
       }
 
-  module _ {seen after : List ℕ} {i : ℕ} {r : Bool} (w : Sifting s p seen i) (h : i < length s)
-      (a : Noted s (i + 1) seen after r) where
+  module _ {seen after : List Bool} {q i : ℕ} {r : Bool} (w : Sifting s p seen q) (n : NextAttribute s q i)
+      (a : Noted s i seen after r) where
     answer : {t : Bool} → r ≡ t
-        → not t && distinct_beside after (cells_in (drop (i + 1) s)) ≡ is_distinct (cells_in (drop p s))
+        → not t && distinct_beside after (cells_in (drop i s)) ≡ is_distinct (cells_in (drop p s))
     answer e =
-        sym (a.decides ∙ ap (λ (b : Bool). not b && distinct_beside after (cells_in (drop (i + 1) s))) e)
-        ∙ passing_at _ s w.passing h
+        sym (a.decides ∙ ap (λ (b : Bool). not b && distinct_beside after (cells_in (drop i s))) e)
+        ∙ passing_at (distinct_beside seen) s q n w.decides
 
     pub sifting_twice : r ≡ true → false ≡ is_distinct (cells_in (drop p s))
     sifting_twice e = answer e
 
-    pub sifting_more : {j : ℕ} → r ≡ false → NextAttribute s (i + 1) j → Sifting s p after j
-    sifting_more e n = record { size = a.same_length ∙ w.size; passing = passing_on _ s n (answer e) }
+    pub sifting_more : r ≡ false → Sifting s p after i
+    sifting_more e = record { size = a.same_length ∙ w.size; decides = answer e }
 
-  pub sifting_done : {seen : List ℕ} {i : ℕ} → Sifting s p seen i → length s ≤ i
+  pub sifting_done : {seen : List Bool} {q : ℕ} → Sifting s p seen q → cells_in (drop q s) ≡ []
       → true ≡ is_distinct (cells_in (drop p s))
   unfolding distinct_beside is_distinct unseen
-  sifting_done w h = passing_done _ s w.passing h
+  sifting_done {seen} {q} w h = passing_done (distinct_beside seen) s q h w.decides

@@ -1,10 +1,10 @@
 // Not for callers: numbers and attributes, read off a tag in a supplier's text at any position, for any bytes. A number
 // that no table, column or cell has is read as the code of a missing cell.
-// Relies on `layout` for the shape and on the definitions of `model`. Called by `scanner`, `elements`,
-// `tags` and `sheets`.
+// Relies on `layout` for the shape, on `file` for a byte and on the definitions of `model`. Called by `scanner`,
+// `elements`, `tags` and `sheets`.
 #![tactic(auto)]
 
-ghost use Rattle.std.specs.Prelude.{◌≡◌, not, eqb, length, drop, set};
+ghost use Rattle.std.specs.Prelude.{◌≡◌, ◌<◌, not, eqb, [], length, drop, set, MatchOption};
 ghost use Rattle.columns.specs.Bound.{column_bound};
 ghost use Rattle.model.specs.Xml.{is_quote, is_fresh};
 ghost use Rattle.model.specs.Form.{number_in, capped, quoted_in, cells_in, is_distinct};
@@ -13,26 +13,22 @@ ghost use Rattle.attributes.specs.Digits.{digit_in, BehindZeros};
 ghost use Rattle.attributes.specs.Tags.{NextAttribute, Noted, Codes};
 
 use columns::COLUMN_BOUND;
+use file::byte_at;
 use model::MISSING;
 
 // How many columns a row can have, as the length of an array.
 pub const COLUMNS: usize = COLUMN_BOUND as usize;
 
-// The digit at i, or 10 where none stands.
-fn digit_at(s: &[u8], i: usize) -> u64
-    ensures { result ≡ digit_in (drop i s.now) }
+// The digit at i, if one stands there.
+fn digit_at(s: &[u8], i: usize) -> Option<u8>
+    ensures { MatchOption result (digit_in (drop i s.now) ≡ 10)
+        (λ d. (d < 10) × (d ≡ digit_in (drop i s.now))) }
 {
-    if s.len() <= i {
-        return 10;
+    let x = byte_at(s, i);
+    if x.is_ascii_digit() {
+        return Some(x - b'0');
     }
-    let x = s[i];
-    if x < b'0' {
-        return 10;
-    }
-    if b'9' < x {
-        return 10;
-    }
-    (x - b'0') as u64
+    None
 }
 
 // The number of the digits at p, at most the code of a missing cell.
@@ -40,15 +36,14 @@ pub fn number_at(s: &[u8], p: usize) -> u32
     ensures { result ≡ capped (number_in (drop p s.now)) }
 {
     let mut n: u64 = 0;
-    let mut i = p;
-    let mut digit = digit_at(s, i);
-    while digit < 10 {
-        n = 10 * n + digit;
+    for i in p..s.len() {
+        let Some(digit) = digit_at(s, i) else {
+            return n as u32;
+        };
+        n = 10 * n + digit as u64;
         if MISSING as u64 <= n {
             return MISSING;
         }
-        i += 1;
-        digit = digit_at(s, i);
     }
     n as u32
 }
@@ -57,22 +52,18 @@ pub fn number_at(s: &[u8], p: usize) -> u32
 pub fn is_quote(x: u8) -> bool
     ensures { result ≡ is_quote x }
 {
-    if x == b'"' {
-        return true;
-    }
-    x == b'\''
+    matches!(x, b'"' | b'\'')
 }
 
-// The number behind the first quote from p on, at most the code of a missing cell; 0 where there is none.
+// The number behind the first quote from p on, at most the code of a missing cell; 0 where there is none, as
+// `quoted_in` of `model` says.
 fn quoted_number(s: &[u8], p: usize) -> u32
     ensures { result ≡ capped (quoted_in (drop p s.now)) }
 {
-    let mut i = p;
-    while i < s.len() {
+    for i in p..s.len() {
         if is_quote(s[i]) {
             return number_at(s, i + 1);
         }
-        i += 1;
     }
     0
 }
@@ -81,11 +72,12 @@ fn quoted_number(s: &[u8], p: usize) -> u32
 fn behind_zeros(s: &[u8], p: usize) -> usize
     ensures { BehindZeros s.now p result }
 {
-    let mut i = p;
-    while digit_at(s, i) == 0 {
-        i += 1;
+    for i in p..s.len() {
+        if s[i] != b'0' {
+            return i;
+        }
     }
-    i
+    p.max(s.len())
 }
 
 // Do the digits at a and at b make the same number, however long they are?
@@ -94,53 +86,50 @@ fn same_number(s: &[u8], a: usize, b: usize) -> bool
 {
     let mut i = behind_zeros(s, a);
     let mut j = behind_zeros(s, b);
-    let mut digit = digit_at(s, i);
-    while digit == digit_at(s, j) {
-        if 9 < digit {
-            return true;
+    // Two positions that move together: a `for` over one would still count the other by hand.
+    while let Some(digit) = digit_at(s, i) {
+        if digit_at(s, j) != Some(digit) {
+            return false;
         }
         i += 1;
         j += 1;
-        digit = digit_at(s, i);
     }
-    false
+    digit_at(s, j).is_none()
 }
 
-// The letter of the next attribute of the tag from p on, or the end of the text where there is none.
-fn next_attribute(s: &[u8], p: usize) -> usize
-    ensures { NextAttribute s.now p result }
+// Where the name of the next attribute of the tag from p on stands, behind its letter, if there is one.
+fn next_attribute(s: &[u8], p: usize) -> Option<usize>
+    ensures { MatchOption result (cells_in (drop p s.now) ≡ []) (NextAttribute s.now p) }
 {
-    let mut i = p;
-    while i < s.len() {
+    for i in p..s.len() {
         let x = s[i];
         if x == b'>' {
-            return s.len();
+            return None;
         }
         if x == b'c' {
-            return i;
+            return Some(i + 1);
         }
-        i += 1;
     }
-    s.len()
+    None
 }
 
 // Has an attribute of the tag from p on the name whose digits stand at `name`?
 fn named_again(s: &[u8], p: usize, name: usize) -> bool
     ensures { result ≡ not (is_fresh (number_in (drop name s.now)) (cells_in (drop p s.now))) }
 {
-    let mut i = next_attribute(s, p);
-    while i < s.len() {
-        if same_number(s, i + 1, name) {
+    let mut q = p;
+    while let Some(other) = next_attribute(s, q) {
+        if same_number(s, other, name) {
             return true;
         }
-        i = next_attribute(s, i + 1);
+        q = other;
     }
     false
 }
 
 // Is the attribute, whose name stands at p, one that was seen, or one that comes again? A low column is noted as seen,
 // and a high one is looked for in the rest of the tag.
-fn is_again(s: &[u8], p: usize, seen: &mut [u8; COLUMNS]) -> bool
+fn is_again(s: &[u8], p: usize, seen: &mut [bool; COLUMNS]) -> bool
     requires { length seen.old ≡ column_bound }
     ensures { Noted s.now p seen.old seen.new result }
 {
@@ -149,21 +138,21 @@ fn is_again(s: &[u8], p: usize, seen: &mut [u8; COLUMNS]) -> bool
         return named_again(s, p, p);
     }
     let old = seen[k as usize];
-    seen[k as usize] = 1;
-    old != 0
+    seen[k as usize] = true;
+    old
 }
 
 // Is no attribute of the tag from p on there twice?
 pub fn is_distinct(s: &[u8], p: usize) -> bool
     ensures { result ≡ is_distinct (cells_in (drop p s.now)) }
 {
-    let mut seen = [0u8; COLUMNS];
-    let mut i = next_attribute(s, p);
-    while i < s.len() {
-        if is_again(s, i + 1, &mut seen) {
+    let mut seen = [false; COLUMNS];
+    let mut q = p;
+    while let Some(name) = next_attribute(s, q) {
+        if is_again(s, name, &mut seen) {
             return false;
         }
-        i = next_attribute(s, i + 1);
+        q = name;
     }
     true
 }
@@ -172,12 +161,12 @@ pub fn is_distinct(s: &[u8], p: usize) -> bool
 fn are_below(s: &[u8], p: usize, c: u16) -> bool
     ensures { result ≡ are_below c (cells_in (drop p s.now)) }
 {
-    let mut i = next_attribute(s, p);
-    while i < s.len() {
-        if c as u32 <= number_at(s, i + 1) {
+    let mut q = p;
+    while let Some(name) = next_attribute(s, q) {
+        if c as u32 <= number_at(s, name) {
             return false;
         }
-        i = next_attribute(s, i + 1);
+        q = name;
     }
     true
 }
@@ -212,9 +201,9 @@ pub fn read_codes(s: &[u8], p: usize, codes: &mut [u32; COLUMNS])
     ensures { Codes (cells_in (drop p s.now)) codes.new }
 {
     *codes = [MISSING; COLUMNS];
-    let mut i = next_attribute(s, p);
-    while i < s.len() {
-        put_code(codes, number_at(s, i + 1), quoted_number(s, i + 1));
-        i = next_attribute(s, i + 1);
+    let mut q = p;
+    while let Some(name) = next_attribute(s, q) {
+        put_code(codes, number_at(s, name), quoted_number(s, name));
+        q = name;
     }
 }

@@ -1,5 +1,5 @@
 -- Rows numbered on a member in a byte each: two rows have the same number exactly if they have the same key.
-use Rattle.std.specs.Prelude.{ℕ, ◌+◌, ◌*◌, ◌^◌, ◌≤◌, ◌<◌, ◌≡◌, ◌⊎◌, ◌↔◌, List, eqb, get_or, length}
+use Rattle.std.specs.Prelude.{ℕ, ◌+◌, ◌*◌, ◌^◌, ◌≤◌, ◌<◌, ◌≡◌, ◌↔◌, List, eqb, get_or, length}
 use Rattle.columns.specs.Bound.{column_bound}
 use Rattle.columns.specs.Set.{bit}
 use Rattle.model.specs.Bounds.{row_bound}
@@ -40,10 +40,6 @@ pub record OnlyMember (k : ℕ) (before after : List ℕ) : Type 0 where
 pub record SameClasses (keys : List ℕ) (k end : ℕ) (bytes : List ℕ) : Type 0 where
   pub classes : (p q : ℕ) → p < end → q < end → eqb (number_at bytes k p) (number_at bytes k q)
       ≡ eqb (key_at keys k p) (key_at keys k q)
-
--- they are, and r is the member's bit; or r is 0
-abbrev pub MemberNumbered : List ℕ → ℕ → ℕ → List ℕ → ℕ → Type 0
-MemberNumbered keys k end bytes r = (r ≡ 0) ⊎ ((r ≡ 2 ^ k) × SameClasses keys k end bytes)
 
 -- all rows are numbered on the members of a set, which are among the first n
 pub record Numbered (keys : List ℕ) (n end few : ℕ) (bytes : List ℕ) : Type 0 where

@@ -11,35 +11,22 @@ ghost use Rattle.filled.specs.Filled.{Filled};
 
 use model::ROWS;
 
-// A byte as a wider number.
-fn wide(x: u8) -> u16
-    ensures is { result ≡ x }
-    ensures small { result < 256 }
-{
-    x as u16
-}
-
 // The 2-byte number at o.
+#[tactic(auto, unfolding(model::specs::Bytes::u16_at))]
 pub fn short_at(cat: &[u8], o: usize) -> u16
     requires { o + 2 ≤ length cat.now }
     ensures { result ≡ u16_at cat.now o }
 {
-    wide(cat[o]) + 256 * wide(cat[o + 1])
+    u16::from_le_bytes([cat[o], cat[o + 1]])
 }
 
 // The 4-byte number at o.
+#[tactic(auto, unfolding(model::specs::Bytes::u32_at))]
 pub fn code_at(cat: &[u8], o: usize) -> u32
     requires { o + 4 ≤ length cat.now }
     ensures { result ≡ u32_at cat.now o }
 {
-    short_at(cat, o) as u32 + 65536 * short_at(cat, o + 2) as u32
-}
-
-// A row number as an index.
-pub fn index(x: u16) -> usize
-    ensures { result ≡ x }
-{
-    x as usize
+    u32::from_le_bytes([cat[o], cat[o + 1], cat[o + 2], cat[o + 3]])
 }
 
 // Each row leads to itself.
@@ -47,10 +34,8 @@ pub fn own_rows(end: usize, reached: &mut [u16; ROWS])
     requires { (end ≤ row_bound) × (length reached.old ≡ row_bound) }
     ensures { Filled 0 end (λ (q : ℕ). q) reached.old reached.new }
 {
-    let mut row: usize = 0;
-    while row < end {
+    for row in 0..end {
         reached[row] = row as u16;
-        row += 1;
     }
 }
 
@@ -61,10 +46,8 @@ pub fn parent_rows(cat: &[u8], o: usize, width: usize, end: usize, reached: &mut
     ensures { Filled 0 end (λ (q : ℕ). u16_at cat.now (o + get_or reached.old q 0 * width))
         reached.old reached.new }
 {
-    let mut q: usize = 0;
-    while q < end {
-        let x = index(reached[q]);
-        reached[q] = short_at(cat, o + x * width);
-        q += 1;
+    for q in 0..end {
+        let row = reached[q] as usize;
+        reached[q] = short_at(cat, o + row * width);
     }
 }

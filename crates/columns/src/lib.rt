@@ -112,15 +112,7 @@ impl ColumnSet {
         let b = other.bits;
         let x = members(a);
         let y = members(b);
-        let s = u32::count_ones(x);
-        let t = u32::count_ones(y);
-        if s < t {
-            return true;
-        }
-        if s != t {
-            return false;
-        }
-        x < y
+        (u32::count_ones(x), x) < (u32::count_ones(y), y)
     }
 
     // The next set of n columns in listing order: 'none' after the full set, for a set with a member at or above n,
@@ -164,9 +156,8 @@ impl ColumnSet {
         }
         let mut rows = [[0; SIZES]; SIZES];
         count_sets(&mut rows, n);
-        let mut k = 0;
         let mut left = index;
-        while k <= n {
+        for k in 0..=n {
             let c = rows[n as usize][k as usize];
             if left < c {
                 return Some(ColumnSet {
@@ -174,7 +165,6 @@ impl ColumnSet {
                 });
             }
             left -= c;
-            k += 1;
         }
         None
     }
@@ -186,12 +176,10 @@ fn of_size_at(rows: &[[u32; SIZES]; SIZES], n: u32, k: u32, index: u32) -> u32
     requires { (n ≤ column_bound) × CountsUpTo n rows.now × (index < length (of_size n k)) }
     ensures { result ≡ get_or (of_size n k) index 0 }
 {
-    let mut m = n;
     let mut size = k;
     let mut left = index;
     let mut set = 0;
-    while 0 < m {
-        m -= 1;
+    for m in (0..n).rev() {
         let c = rows[m as usize][size as usize];
         if c <= left {
             left -= c;
@@ -209,12 +197,9 @@ fn count_sets(rows: &mut [[u32; SIZES]; SIZES], n: u32)
 {
     let none = of_no_column();
     rows[0] = none;
-    let mut i = 0;
-    while i < n {
+    for i in 0..n {
         let row = rows[i as usize];
-        let next = with_a_column(row, i);
-        i += 1;
-        rows[i as usize] = next;
+        rows[i as usize + 1] = with_a_column(row, i);
     }
 }
 
@@ -234,10 +219,8 @@ fn with_a_column(before: [u32; SIZES], n: u32) -> [u32; SIZES]
     ensures { Counts (suc n) result }
 {
     let mut row = before;
-    let mut k = SIZES - 1;
-    while 0 < k {
-        row[k] = row[k] + row[k - 1];
-        k -= 1;
+    for k in (1..SIZES).rev() {
+        row[k] += row[k - 1];
     }
     row
 }

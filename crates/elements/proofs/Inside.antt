@@ -31,23 +31,19 @@ module _ (s : List ℕ) (fits : ℕ → ℕ → Cells → Bool) (d up : ℕ) whe
     pub content_done : t ≡ false → content_from s fits d up q ≡ q
     content_done z = many_done s _ _ (elements_go s fits d up) (sym o ∙ z)
 
-    module _ (z : t ≡ true) {e : ℕ} (f : e ≡ element_at s fits d up q) where
+    module _ (z : t ≡ true) where
       -- one follows that is not of the form
-      pub content_fails : e ≡ 0 → content_from s fits d up q ≡ 0
-      content_fails w = many_fails s _ _ (elements_go s fits d up) (sym o ∙ z) (next_none (skip s) (sym f ∙ w))
+      pub content_fails : 0 ≡ element_at s fits d up q → content_from s fits d up q ≡ 0
+      content_fails f = many_fails s _ _ (elements_go s fits d up) (sym o ∙ z) (next_none (skip s) (sym f))
 
-      module _ (w : e ≡ 0 → ⊥) {x : ℕ} (g : x ≡ skip s e) where
+      module _ {e : ℕ} (f : e ≡ element_at s fits d up q) (w : q < e) {x : ℕ} (g : x ≡ skip s e) where
         then : element_then s fits d up q ≡ x
-        then = next_some (skip s) (λ v. w (f ∙ v)) ∙ (ap (skip s) (sym f) ∙ sym g)
+        then = next_some (skip s) (λ v. omega (arith, f ∙ v)) ∙ (ap (skip s) (sym f) ∙ sym g)
 
-        behind : x ≡ 0 → ⊥
-        behind v = omega (arith, skip_low s e)
+        pub content_nearer : (q < x) × (q < length s)
+        content_nearer = (omega (arith, skip_low s e), (elements_go s fits d up).inside q (sym o ∙ z))
 
         -- one follows that is
         pub content_more : content_from s fits d up q ≡ content_from s fits d up x
-        content_more = many_more s _ _ (elements_go s fits d up) (sym o ∙ z) then behind
-
-        pub content_nearer : (q < x) × (q < length s)
-        content_nearer =
-            let h = elements_go s fits d up in
-            (h.onward q x (sym o ∙ z) then behind, h.inside q (sym o ∙ z))
+        content_more =
+            many_more s _ _ (elements_go s fits d up) (sym o ∙ z) then (λ v. omega (arith, content_nearer))

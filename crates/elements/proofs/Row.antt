@@ -1,5 +1,5 @@
 -- An element, step by step, for a return.
-use Prim.Native.Nat.{ℕ, zero, suc, ◌+◌, ◌-◌}
+use Prim.Native.Nat.{ℕ, zero, suc, ◌+◌, ◌-◌, ◌<◌}
 use mathlib.Core.Path.{◌≡◌, refl, ap, ◌∙◌}
 use mathlib.Core.Bool.{Bool, true, false}
 use mathlib.Core.List.{List}
@@ -26,12 +26,12 @@ module _ (s : List ℕ) (fits : ℕ → ℕ → Cells → Bool) (up p : ℕ) whe
       let e : suc d - 1 ≡ d = omega arith in
       ap (λ (m : ℕ). next (tag_at s p) (λ a. pick (fits up (table_of s p) (attributes_of s p)) (rest_of m a) 0)) e
 
-  module _ (n : ℕ) (l : n ≡ 0 → ⊥) {a : ℕ} (e : a ≡ tag_at s p) where
+  module _ (n : ℕ) (l : n ≡ 0 → ⊥) where
     -- there is no tag
-    pub element_none : a ≡ 0 → 0 ≡ element_at s fits n up p
-    element_none z = none_read _ e z ∙ step n l
+    pub element_none : 0 ≡ tag_at s p → 0 ≡ element_at s fits n up p
+    element_none e = none_read _ e ∙ step n l
 
-    module _ (z : a ≡ 0 → ⊥) {t : Bool}
+    module _ {a : ℕ} (e : a ≡ tag_at s p) (z : p < a) {t : Bool}
         (f : t ≡ fits up (capped (number_in (drop (p + 2) s))) (cells_in (drop (p + 2) s))) where
       -- the tag is not to be taken
       pub element_unfit : t ≡ false → 0 ≡ element_at s fits n up p

@@ -10,7 +10,7 @@ use Rattle.model.specs.Bytes.{Bytes}
 use Rattle.model.specs.Entries.{entry_bytes, bytes_of, entry_at, entries_bytes, entries_from}
 use Rattle.model.specs.Reading.{entries_held, count_in, distance_in, read_at}
 use Rattle.model.specs.declared.Entry.{Entry}
-use Rattle.model.specs.declared.ReadAnswer.TheVariants.{Next, End}
+use Rattle.std.specs.Prelude.{Some, None}
 use Rattle.entries.specs.Small.{Small}
 use Rattle.entries.proofs.OneEntry.{length_entry, entry_after, entry_back, entry_forth}
 
@@ -60,14 +60,14 @@ length_from file (suc n) i = ap suc (length_from file n (i + entry_bytes))
 
 -- the entry at a position
 read_from : (file : List ℕ) (n p i : ℕ) → i < n
-    → read_at (entries_from file n p) i ≡ Next (entry_at file (p + entry_bytes * i))
+    → read_at (entries_from file n p) i ≡ Some (entry_at file (p + entry_bytes * i))
 unfolding entries_from read_at
 read_from file zero p i h = absurd (omega arith)
-read_from file (suc n) p zero h = ap (λ (k : ℕ). Next (entry_at file k)) (omega arith)
+read_from file (suc n) p zero h = ap (λ (k : ℕ). Some (entry_at file k)) (omega arith)
 read_from file (suc n) p (suc i) h = read_from file n (p + entry_bytes) i (omega arith)
-    ∙ ap (λ (k : ℕ). Next (entry_at file k)) (omega arith)
+    ∙ ap (λ (k : ℕ). Some (entry_at file k)) (omega arith)
 
-pub read_past : (es : List Entry) (i : ℕ) → length es ≤ i → read_at es i ≡ End
+pub read_past : (es : List Entry) (i : ℕ) → length es ≤ i → read_at es i ≡ None
 unfolding read_at
 read_past [] i h = refl
 read_past (e ∷ es) zero h = absurd (omega arith)
@@ -79,11 +79,11 @@ length_in file = length_from file (count_in file) (length file - distance_in fil
 
 pub reads_next : (file : List ℕ) (i : ℕ) {e : Entry} {p : ℕ} → i < count_in file → p ≡ length file - distance_in file
     → e ≡ entry_at file (p + entry_bytes * i)
-    → Next e ≡ read_at (entries_held file) i
+    → Some e ≡ read_at (entries_held file) i
 unfolding entries_held
 reads_next file i h q r =
-    ap Next (r ∙ ap (λ (n : ℕ). entry_at file (n + entry_bytes * i)) q)
+    ap Some (r ∙ ap (λ (n : ℕ). entry_at file (n + entry_bytes * i)) q)
     ∙ sym (read_from file (count_in file) (length file - distance_in file) i h)
 
-pub reads_end : (file : List ℕ) (i : ℕ) → count_in file ≤ i → End ≡ read_at (entries_held file) i
+pub reads_end : (file : List ℕ) (i : ℕ) → count_in file ≤ i → None ≡ read_at (entries_held file) i
 reads_end file i h = sym (read_past (entries_held file) i (omega (arith, length_in file)))

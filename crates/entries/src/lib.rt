@@ -5,91 +5,46 @@
 #![tactic(auto)]
 
 ghost use Rattle.std.specs.Prelude.{◌+◌, ◌*◌, ◌≤◌, ◌≡◌, length};
-ghost use Rattle.columns.specs.Set.{member_of, size_of};
-ghost use Rattle.columns.specs.Test.{if_eq};
+ghost use Rattle.columns.specs.Set.{size_of};
 ghost use Rattle.model.specs.Entry.{earlier};
-ghost use Rattle.model.specs.Refusal.{or_else};
-ghost use Rattle.model.specs.Entries.{entry_bytes, entry_code, later_code, entries_code, entry_at, entries_from};
-ghost use Rattle.entries.specs.Verdict.{bad_unless};
+ghost use Rattle.model.specs.Entries.{entry_bytes, entry_code, entries_code, entry_at, entries_from};
+ghost use Rattle.entries.specs.Verdict.{bad_unless, code_after};
 
 use columns::{COLUMN_BOUND, ColumnSet};
 use file::{byte_at, u16_at};
 use model::{ENTRY_BYTES, Entry, ROW, TABLE_BOUND};
 
-// A byte as a wider number, and a 2-byte number as one.
-fn wide(x: u8) -> u32
-    ensures { result ≡ x }
+// The left side of an entry.
+fn left_set(e: Entry) -> ColumnSet
+    ensures { result.bits ≡ e.left }
 {
-    x as u32
-}
-
-fn wide16(x: u16) -> u32
-    ensures { result ≡ x }
-{
-    x as u32
-}
-
-// Is column k a member of a left side, and how many members has it?
-fn member(left: u16, k: u32) -> bool
-    ensures { result ≡ member_of left k }
-{
-    let set = ColumnSet { bits: wide16(left) };
-    set.member(k)
-}
-
-fn size(left: u16) -> u32
-    ensures { result ≡ size_of left }
-{
-    let set = ColumnSet { bits: wide16(left) };
-    set.size()
+    let bits = u32::from(e.left);
+    ColumnSet { bits }
 }
 
 // 15: may the entry stand in a list?
+#[tactic(auto, unfolding(model::specs::Entries::entry_code, columns::specs::Test::if_eq, columns::specs::Test::if_le))]
 fn entry_ok(e: Entry) -> bool
     ensures { bad_unless result ≡ entry_code e }
 {
-    let right = wide(e.right);
-    if TABLE_BOUND <= wide(e.target) {
-        return false;
-    }
-    if right == ROW {
-        return true;
-    }
-    if COLUMN_BOUND <= right {
-        return false;
-    }
-    !member(e.left, right)
+    let right = u32::from(e.right);
+    u32::from(e.target) < TABLE_BOUND
+        && (right == ROW || right < COLUMN_BOUND && !left_set(e).member(right))
 }
 
 // Does e stand before f in listing order?
 fn earlier(e: Entry, f: Entry) -> bool
     ensures { result ≡ earlier e f }
 {
-    if e.target != f.target {
-        return e.target < f.target;
-    }
-    let s = size(e.left);
-    let t = size(f.left);
-    if s != t {
-        return s < t;
-    }
-    if e.left != f.left {
-        return e.left < f.left;
-    }
-    e.right < f.right
+    (e.target, left_set(e).size(), e.left, e.right)
+        < (f.target, left_set(f).size(), f.left, f.right)
 }
 
-// 15: may the entry stand at an index, behind the one before?
-pub fn fine_after(at: usize, before: Entry, e: Entry) -> bool
-    ensures { bad_unless result ≡ or_else (entry_code e) (if_eq at 0 0 (later_code before e)) }
+// 15: may the entry stand in a list, behind the one before if there is one?
+pub fn fine_after(before: Option<Entry>, e: Entry) -> bool
+    ensures { bad_unless result ≡ code_after before e }
 {
-    if !entry_ok(e) {
-        return false;
-    }
-    if at == 0 {
-        return true;
-    }
-    earlier(before, e)
+    entry_ok(e) && before.is_none_or(|d| earlier(d, e))
 }
 
 // The entry whose bytes begin at a position; a byte past the end reads as 0.
@@ -115,26 +70,13 @@ pub fn entries_ok(file: &[u8], count: u32, from: usize) -> bool
     requires { from + entry_bytes * count ≤ length file.now }
     ensures { bad_unless result ≡ entries_code (entries_from file.now count from) }
 {
-    if count == 0 {
-        return true;
-    }
-    let mut before = entry_from(file, from);
-    if !entry_ok(before) {
-        return false;
-    }
-    let mut at = from + ENTRY_BYTES;
-    let mut left = count - 1;
-    while 0 < left {
-        let e = entry_from(file, at);
-        if !entry_ok(e) {
+    let mut before = None;
+    for i in 0..count {
+        let e = entry_from(file, from + ENTRY_BYTES * (i as usize));
+        if !fine_after(before, e) {
             return false;
         }
-        if !earlier(before, e) {
-            return false;
-        }
-        before = e;
-        at += ENTRY_BYTES;
-        left -= 1;
+        before = Some(e);
     }
     true
 }

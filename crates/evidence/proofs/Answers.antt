@@ -26,6 +26,9 @@ said_yes {r} is n = is.0 (not-false r n)
 pub same_answer : {b : Bool} {P Q : Type 0} → (P → Q) → (Q → P) → (b ≡ true) ↔ P → (b ≡ true) ↔ Q
 same_answer f g h = (λ e. f (h.0 e), λ q. h.1 (g q))
 
+pub same_as : {b : Bool} {P Q : Type 0} → P ↔ Q → (b ≡ true) ↔ Q → (b ≡ true) ↔ P
+same_as is h = same_answer is.1 is.0 h
+
 -- the answer for e, which was read as f
 module _ {A : Type 0} (P : A → Type 0) {e f : A} {r : Bool} (s : e ≡ f) (is : (r ≡ true) ↔ P e) where
   pub read_no : not r ≡ true → P f → ⊥

@@ -1,4 +1,5 @@
 pub mod Answers
+pub mod Ranges
 pub mod Lists
 pub mod Records
 pub mod Every

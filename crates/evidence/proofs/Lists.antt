@@ -1,6 +1,6 @@
 -- Loops over a list: what holds of some element and of each, with the rest of the list still to go; and the entries and
 -- the records of bytes one by one.
-use Prim.Native.Nat.{ℕ, zero, suc, ◌+◌, ◌-◌, ◌<◌}
+use Prim.Native.Nat.{ℕ, zero, suc, ◌+◌, ◌*◌, ◌-◌, ◌<◌}
 use mathlib.Core.Path.{◌≡◌, refl, sym, ap, subst}
 use mathlib.Core.Logic.{◌↔◌, ◌⊎◌, inl, inr}
 use mathlib.Core.List.Memᴰ
@@ -8,6 +8,8 @@ use mathlib.Core.List.{List, [], ◌∷◌, Memᴰ}
 use native.Mathlib.Omega.{arith}
 use Rattle.model.specs.Entries.{entry_bytes, entry_at, entries_from}
 use Rattle.model.specs.Evidence.{evidence_bytes, record_at, records_from}
+use Rattle.model.specs.declared.Entry.{Entry}
+use Rattle.model.specs.declared.Evidence.{Evidence}
 use Rattle.evidence.specs.Lists.{Some, Each}
 
 module _ {A : Type 0} where
@@ -64,6 +66,88 @@ module _ {A : Type 0} where
 
     pub testing_done : {rest : List A} → rest ≡ [] → Testing Asked Fine whole rest → Each Asked whole
     testing_done s g = g.is.0 (subst (Each Asked) (sym s) (λ x m. absurd (Memᴰ.not-nil m)))
+
+-- what holds of each element of a list whose elements stand so many bytes apart, by index
+module _ {A : Type 0} (width : ℕ) (at : ℕ → A) (from : ℕ → ℕ → List A) (none : (i : ℕ) → from 0 i ≡ [])
+    (next : (n i : ℕ) → from (suc n) i ≡ at i ∷ from n (i + width)) (P : A → Type 0) where
+  each_from : (n i : ℕ) → ((k : ℕ) → k < n → P (at (i + width * k))) → Each P (from n i)
+  each_from zero i h = λ x m. absurd (Memᴰ.not-nil (subst (Memᴰ x) (none i) m))
+  each_from (suc n) i h =
+      let now : i + width * 0 ≡ i = omega arith in
+      let ahead : (k : ℕ) → i + width * (k + 1) ≡ i + width + width * k = λ k. omega arith in
+      subst (Each P) (sym (next n i))
+      (each_cons (subst (λ (j : ℕ). P (at j)) now (h 0 (omega arith)))
+      (each_from n (i + width) (λ k l. subst (λ (j : ℕ). P (at j)) (ahead k) (h (k + 1) (omega arith)))))
+
+  from_each : (n i : ℕ) → Each P (from n i) → (k : ℕ) → k < n → P (at (i + width * k))
+  from_each zero i f k l = absurd (omega arith)
+  from_each (suc n) i f zero l =
+      let now : i ≡ i + width * 0 = omega arith in
+      subst (λ (j : ℕ). P (at j)) now (each_first (next n i) f)
+  from_each (suc n) i f (suc k) l =
+      let ahead : i + width + width * k ≡ i + width * suc k = omega arith in
+      subst (λ (j : ℕ). P (at j)) ahead (from_each n (i + width) (each_others (next n i) f) k (omega arith))
+
+  from_some : (n i : ℕ) → Some P (from n i) → (k : ℕ) × (k < n) × P (at (i + width * k))
+  from_some zero i s = absurd (Memᴰ.not-nil (subst (Memᴰ s.0) (none i) s.1))
+  from_some (suc n) i s = elim (some_cons.0 (subst (Some P) (next n i) s)) [
+    | inl p ↦
+        let now : i ≡ i + width * 0 = omega arith in
+        (0, omega arith, subst (λ (j : ℕ). P (at j)) now p)
+    | inr t ↦
+        let w = from_some n (i + width) t in
+        let ahead : i + width + width * w.0 ≡ i + width * (w.0 + 1) = omega arith in
+        (w.0 + 1, omega (arith, w.1), subst (λ (j : ℕ). P (at j)) ahead w.2)
+  ]
+
+  some_from : (n i k : ℕ) → k < n → P (at (i + width * k)) → Some P (from n i)
+  some_from zero i k l p = absurd (omega arith)
+  some_from (suc n) i zero l p =
+      let now : i + width * 0 ≡ i = omega arith in
+      subst (Some P) (sym (next n i)) (some_cons.1 (inl (subst (λ (j : ℕ). P (at j)) now p)))
+  some_from (suc n) i (suc k) l p =
+      let ahead : i + width * suc k ≡ i + width + width * k = omega arith in
+      subst (Some P) (sym (next n i))
+      (some_cons.1 (inr (some_from n (i + width) k (omega arith) (subst (λ (j : ℕ). P (at j)) ahead p))))
+
+pub each_entry : (P : Entry → Type 0) (file : List ℕ) (n i : ℕ)
+    → Each P (entries_from file n i) ↔ ((k : ℕ) → k < n → P (entry_at file (i + entry_bytes * k)))
+unfolding entries_from
+each_entry P file n i = (
+  from_each entry_bytes (entry_at file) (entries_from file) (λ i. refl) (λ n i. refl) P n i,
+  each_from entry_bytes (entry_at file) (entries_from file) (λ i. refl) (λ n i. refl) P n i,
+)
+
+pub some_entry : (P : Entry → Type 0) (file : List ℕ) (n i : ℕ)
+    → Some P (entries_from file n i) ↔ ((k : ℕ) × (k < n) × P (entry_at file (i + entry_bytes * k)))
+unfolding entries_from
+some_entry P file n i = (
+  from_some entry_bytes (entry_at file) (entries_from file) (λ i. refl) (λ n i. refl) P n i,
+  λ w. some_from entry_bytes (entry_at file) (entries_from file) (λ i. refl) (λ n i. refl) P n i w.0 w.1 w.2,
+)
+
+pub each_record : (P : Evidence → Type 0) (bytes : List ℕ) (n : ℕ)
+    → Each P (records_from bytes n 0) ↔ ((k : ℕ) → k < n → P (record_at bytes (evidence_bytes * k)))
+unfolding records_from
+each_record P bytes n =
+    let start : (k : ℕ) → 0 + evidence_bytes * k ≡ evidence_bytes * k = λ k. omega arith in (
+      λ f k l. subst (λ (j : ℕ). P (record_at bytes j)) (start k)
+          (from_each evidence_bytes (record_at bytes) (records_from bytes) (λ i. refl) (λ n i. refl) P n 0 f k l),
+      λ h. each_from evidence_bytes (record_at bytes) (records_from bytes) (λ i. refl) (λ n i. refl) P n 0
+          (λ k l. subst (λ (j : ℕ). P (record_at bytes j)) (sym (start k)) (h k l)),
+    )
+
+pub some_record : (P : Evidence → Type 0) (bytes : List ℕ) (n : ℕ)
+    → Some P (records_from bytes n 0) ↔ ((k : ℕ) × (k < n) × P (record_at bytes (evidence_bytes * k)))
+unfolding records_from
+some_record P bytes n =
+    let start : (k : ℕ) → 0 + evidence_bytes * k ≡ evidence_bytes * k = λ k. omega arith in (
+      λ s.
+          let w = from_some evidence_bytes (record_at bytes) (records_from bytes) (λ i. refl) (λ n i. refl) P n 0 s in
+          (w.0, w.1, subst (λ (j : ℕ). P (record_at bytes j)) (start w.0) w.2),
+      λ w. some_from evidence_bytes (record_at bytes) (records_from bytes) (λ i. refl) (λ n i. refl) P n 0 w.0 w.1
+          (subst (λ (j : ℕ). P (record_at bytes j)) (sym (start w.0)) w.2),
+    )
 
 -- the entries and the records of bytes, the first one by itself
 pub entries_none : (file : List ℕ) (n i : ℕ) → n ≡ 0 → entries_from file n i ≡ []

@@ -1,3 +1,4 @@
 pub mod Lists
 pub mod Sides
 pub mod Small
+pub mod Run

@@ -9,9 +9,12 @@ ghost use Rattle.std.specs.Prelude.{◌<◌, ◌≡◌, true, ◌↔◌};
 ghost use Rattle.model.specs.Evidence.{record_at};
 ghost use Rattle.evidence.specs.Sides.{SidesFit};
 
+mod run;
+
 use bits::power;
 use file::{byte_at, u16_at};
 use model::{Evidence, ROW};
+pub use run::EvidenceRecords;
 
 // The record whose bytes begin at a position; a byte past the end reads as 0.
 pub fn record_at(bytes: &[u8], at: usize) -> Evidence
@@ -40,14 +43,5 @@ pub fn sides_fit(n: u32, low: u32, set: u32, right: u32) -> bool
     requires { n < 32 }
     ensures { (result ≡ true) ↔ SidesFit n low set right }
 {
-    if power(n) <= set {
-        return false;
-    }
-    if right == ROW {
-        return true;
-    }
-    if right < low {
-        return false;
-    }
-    right < n
+    set < power(n) && (right == ROW || (low <= right && right < n))
 }

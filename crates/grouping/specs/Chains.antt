@@ -1,7 +1,6 @@
 -- Chains of the leaders so far, one for each value of a hash of the words. A place in a chain is one more than a row,
 -- and 0 is the end.
-use Rattle.std.specs.Prelude.{ℕ, ◌+◌, ◌-◌, ◌*◌, ◌/◌, ◌%◌, ◌^◌, ◌≤◌, ◌<◌, ◌≡◌, List, length, get_or, set}
-use Rattle.columns.specs.Test.{if_eq}
+use Rattle.std.specs.Prelude.{ℕ, ◌+◌, ◌-◌, ◌*◌, ◌/◌, ◌%◌, ◌^◌, ◌≤◌, ◌<◌, ◌≡◌, ◌↔◌, Bool, true, List, length, get_or, set}
 use Rattle.model.specs.Bounds.{row_bound}
 use Rattle.leaders.specs.Keys.{first_same}
 
@@ -35,8 +34,8 @@ pub record Chained (ws : List ℕ) (m : ℕ) (heads links : List ℕ) : Type 0 w
   pub headed : (h : ℕ) → h < chains → LastIn ws m h (get_or heads h 0)
   pub linked : LinkedBelow ws m links
 
--- row q has its leader and is in its chain, and r is 0 if it leads itself
-pub record Placed (ws : List ℕ) (q : ℕ) (heads links before after : List ℕ) (r : ℕ) : Type 0 where
+-- row q has its leader and is in its chain, and r is true exactly if it leads itself
+pub record Placed (ws : List ℕ) (q : ℕ) (heads links before after : List ℕ) (r : Bool) : Type 0 where
   pub chained : Chained ws (q + 1) heads links
   pub leader : after ≡ set before q (first_same ws q)
-  pub follows : r ≡ if_eq (first_same ws q) q 0 1
+  pub leads : (r ≡ true) ↔ (first_same ws q ≡ q)

@@ -43,15 +43,14 @@ fn leader(words: &[u64; ROWS], links: &[u16; ROWS], head: u16, q: usize) -> usiz
     q
 }
 
-// Gives row q its leader, and puts it at the head of its chain if it leads itself. It answers 0 for a row that does,
-// and else 1.
+// Gives row q its leader, and puts it at the head of its chain if it leads itself. It answers whether it does.
 fn place(
     words: &[u64; ROWS],
     q: usize,
     heads: &mut [u16; CHAINS],
     links: &mut [u16; ROWS],
     leaders: &mut [u16; ROWS],
-) -> usize
+) -> bool
     requires q_lt_row_bound { q < row_bound }
     requires chained { Chained words.now q heads.old links.old }
     requires leaders_len { length leaders.old ≡ row_bound }
@@ -62,27 +61,24 @@ fn place(
     let p = leader(words, links, heads[h], q);
     leaders[q] = p as u16;
     if p != q {
-        return 1;
+        return false;
     }
     links[q] = heads[h];
     heads[h] = q as u16 + 1;
-    0
+    true
 }
 
-// The leaders of the rows before the end. It answers how many rows do not lead themselves; promised is that it is 0
-// exactly if every row does.
-pub fn group(words: &[u64; ROWS], end: usize, leaders: &mut [u16; ROWS]) -> usize
+// The leaders of the rows before the end. It answers whether every one of them leads itself.
+pub fn group(words: &[u64; ROWS], end: usize, leaders: &mut [u16; ROWS]) -> bool
     requires end_le_row_bound { end ≤ row_bound }
     requires leaders_len { length leaders.old ≡ row_bound }
     ensures { Grouped words.now end leaders.new result }
 {
     let mut heads = [0u16; CHAINS];
     let mut links = [0u16; ROWS];
-    let mut followers: usize = 0;
-    let mut q: usize = 0;
-    while q < end {
-        followers += place(words, q, &mut heads, &mut links, leaders);
-        q += 1;
+    let mut alone = true;
+    for q in 0..end {
+        alone &= place(words, q, &mut heads, &mut links, leaders);
     }
-    followers
+    alone
 }

@@ -11,7 +11,7 @@ use Rattle.columns.specs.Set.{bit}
 use Rattle.columns.proofs.Bits.{bit_below}
 use Rattle.model.specs.Bounds.{row_bound}
 use Rattle.model.specs.Bytes.{u16_at, u32_at}
-use Rattle.model.specs.Catalogue.{tables, table_at, columns, parent, rows, parent_row, cell, visible, inherited}
+use Rattle.model.specs.Catalogue.{tables, trailer, table_at, columns, parent, rows, parent_row, cell, visible, inherited}
 use Rattle.model.specs.Check.{Accepted}
 use Rattle.model.specs.View.{View, In, agree_on}
 use Rattle.model.specs.Target.{cells_agree, agree_at, view}
@@ -26,7 +26,7 @@ use Rattle.model.proofs.First.{first_from_same}
 use Rattle.leaders.proofs.Keys.{agree_on_one}
 use Rattle.filled.specs.Filled.{Filled}
 use Rattle.filled.proofs.Filled.{filled_first}
-use Rattle.climb.proofs.Table.{cell_at, parent_at, parent_row_at, row_within_at, own_visible, rest_inherited}
+use Rattle.climb.proofs.Table.{table_read, columns_read, cell_at, parent_at, parent_row_at, row_within_at, own_visible, rest_inherited}
 use Rattle.keys.specs.Column.{code_of, agree_by, leader_by, LaidTable}
 
 -- the rows of table t lead to rows of table `at`, with so many columns visible there, on which they agree as the rows
@@ -86,7 +86,14 @@ agree_by_lem cat at o c i reached p q e f =
 
 module _ (cat : List ℕ) (ok : Accepted cat) {t set at above : ℕ} {reached keys : List ℕ}
     (h : Laying cat t set at above reached keys)
-    {o c : ℕ} (e : o ≡ table_at cat at) (f : c ≡ columns cat at) where
+    {first o c : ℕ} (starts : first ≡ trailer cat) (stands : o ≡ u32_at cat (first + 4 * at))
+    (wide : c ≡ u16_at cat o) where
+  e : o ≡ table_at cat at
+  e = table_read cat at starts stands
+
+  f : c ≡ columns cat at
+  f = columns_read cat at e wide
+
   -- the own columns of the table are the last of those left
   pub own_left : c ≤ above
   own_left = own_visible cat at e f above h.left

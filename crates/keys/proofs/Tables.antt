@@ -1,6 +1,7 @@
 -- The columns of one table, laid one after the other from the last on.
 use Prim.Native.Nat.{ℕ, ◌+◌, ◌-◌, ◌*◌, ◌≤◌, ◌<◌}
 use mathlib.Core.Path.{◌≡◌, refl, ap, subst, ◌∙◌}
+use mathlib.Core.Bool.{Bool}
 use mathlib.Core.List.{List}
 use native.Mathlib.Decide.{ℕ_discrete}
 use native.Mathlib.Omega.{arith}
@@ -33,12 +34,12 @@ module _ (cat : List ℕ) (o c low : ℕ) (reached : List ℕ) (end set : ℕ) (
       at i q li hi n lq (no d) = h.laid i q (omega arith) hi n lq
 
   -- the keys of another are the leaders by its words
-  pub table_more : (j : ℕ) (words leaders keys after : List ℕ) (r : ℕ) → 0 < j → j ≤ c → end ≤ row_bound
+  pub table_more : (j : ℕ) (words leaders keys after : List ℕ) {r : Bool} → 0 < j → j ≤ c → end ≤ row_bound
       → AgreeWords cat (o + 8 + 4 * (j - 1)) (2 + 4 * c) reached end words → Grouped words end leaders r
       → Filled ((low + (j - 1)) * row_bound) ((low + (j - 1)) * row_bound + end)
       (λ i. get_or leaders (i - (low + (j - 1)) * row_bound) 0) keys after
       → LaidTable cat o c low reached end set j before keys → LaidTable cat o c low reached end set (j - 1) before after
-  table_more j words leaders keys after r p l short w g put h = record {
+  table_more j words leaders keys after p l short w g put h = record {
     same_length = put.same_length ∙ h.same_length;
     laid = λ i q li hi n lq. at i q li hi n lq (ℕ_discrete (j - 1) i);
     kept = λ k q lk. put.past (k * row_bound + q) (omega arith) ∙ h.kept k q lk;

@@ -7,7 +7,7 @@ ghost use Rattle.leaders.specs.Keys.{keys_size};
 ghost use Rattle.filled.specs.Filled.{Filled};
 ghost use Rattle.keys.specs.Column.{cell_word, AgreeWords};
 
-use climb::{code_at, index};
+use climb::code_at;
 use leaders::{ROWS, SIZE};
 use model::MISSING;
 
@@ -34,11 +34,9 @@ pub fn fill_words(
     requires by_index { (q : ℕ) → q < end → from + get_or reached.now q 0 * width + 4 ≤ length cat.now }
     ensures { AgreeWords cat.now from width reached.now end words.new }
 {
-    let mut q: usize = 0;
-    while q < end {
+    for q in 0..end {
         let x = reached[q];
-        words[q] = word_of(code_at(cat, from + index(x) * width), x);
-        q += 1;
+        words[q] = word_of(code_at(cat, from + x as usize * width), x);
     }
 }
 
@@ -49,9 +47,5 @@ pub fn put_keys(k: usize, end: usize, leaders: &[u16; ROWS], keys: &mut [u16; SI
         (λ (i : ℕ). get_or leaders.now (i - k * row_bound) 0) keys.old keys.new }
 {
     let at = k * ROWS;
-    let mut row: usize = 0;
-    while row < end {
-        keys[at + row] = leaders[row];
-        row += 1;
-    }
+    keys[at..at + end].copy_from_slice(&leaders[..end]);
 }

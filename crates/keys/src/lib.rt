@@ -17,7 +17,7 @@ ghost use Rattle.leaders.specs.Keys.{keys_size, LaidFor, Keyed};
 ghost use Rattle.keys.specs.Column.{LaidTable};
 
 use bits::power;
-use climb::{code_at, index, own_rows, parent_rows, short_at};
+use climb::{code_at, own_rows, parent_rows, short_at};
 use column::{fill_words, put_keys};
 use grouping::group;
 use layout::{rows, trailer};
@@ -42,9 +42,7 @@ fn lay_table(
 {
     let mut words = [0; ROWS];
     let mut leaders = [0; ROWS];
-    let mut j = c;
-    while 0 < j {
-        j -= 1;
+    for j in (0..c).rev() {
         if (set >> (low + j)) % 2 == 0 {
             continue;
         }
@@ -65,21 +63,21 @@ pub fn lay(cat: &[u8], target: u32, n: u32, set: u32, keys: &mut [u16; SIZE])
         × LaidFor (view cat.now target) set keys.new }
 {
     let first = trailer(cat) as usize;
-    let end = index(rows(cat, target));
+    let end = rows(cat, target) as usize;
     let mut reached = [0; ROWS];
     own_rows(end, &mut reached);
     let mut at = target as usize;
     let mut above = n as usize;
     loop {
         let o = code_at(cat, first + 4 * at) as usize;
-        let c = index(short_at(cat, o));
+        let c = short_at(cat, o) as usize;
         above -= c;
         lay_table(cat, o, c, above, &reached, end, set, keys);
         if set % power(above as u32) == 0 {
             return;
         }
         parent_rows(cat, o + 6, 2 + 4 * c, end, &mut reached);
-        at = index(short_at(cat, o + 2));
+        at = short_at(cat, o + 2) as usize;
     }
 }
 

@@ -10,8 +10,11 @@ ghost use Rattle.model.specs.Catalogue.{parent as parent_of, rows as rows_of, ro
 ghost use Rattle.model.specs.Catalogue.{visible as visible_of, inherited as inherited_of, sets as sets_of};
 ghost use Rattle.model.specs.Check.{Accepted};
 
+mod target;
+
 use bits::power;
 use model::TABLE_BOUND;
+pub use target::Target;
 
 // How many tables the trailer names.
 pub fn tables(cat: &[u8]) -> u16

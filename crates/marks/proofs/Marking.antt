@@ -1,62 +1,55 @@
--- Loops that mark what the elements of a list want, with the rest of the list still to go.
-use Prim.Native.Nat.{ℕ}
+-- Loops that mark, element by element, what each of them wants.
+use Prim.Native.Nat.{ℕ, ◌+◌, ◌<◌}
 use mathlib.Core.Path.{◌≡◌, refl, subst, ◌∙◌}
 use mathlib.Core.Logic.{◌↔◌, ◌⊎◌, inl, inr}
-use mathlib.Core.List.Memᴰ
-use mathlib.Core.List.{List, [], ◌∷◌}
+use native.Mathlib.Decide.{ℕ_discrete}
+use native.Mathlib.Omega.{arith}
+use mathlib.Core.List.{List}
 use lib.ListN.{length}
 use Rattle.planes.specs.Bits.{plane_bit}
 use Rattle.planes.specs.Marks.{Marked}
-use Rattle.evidence.specs.Lists.{Some, Each}
-use Rattle.evidence.proofs.Lists.{each_first, each_others, some_cons}
+use Rattle.planes.proofs.Marks.{marked_none}
 
-module _ {A : Type 0} where
-  -- marked now, or wanted by the rest, exactly if marked before or wanted by the whole; and the rest is fine
-  pub record Marking (Wanted : ℕ → A → Type 0) (Fine : A → Type 0) (whole rest : List A) (before now : List ℕ)
-      : Type 0 where
-    pub is : (y : ℕ)
-        → ((plane_bit now y ≡ 1) ⊎ Some (Wanted y) rest) ↔ ((plane_bit before y ≡ 1) ⊎ Some (Wanted y) whole)
-    pub fine : Each Fine rest
-    pub same_length : length now ≡ length before
+-- what the elements below n want is marked too, and nothing else
+pub record Marking (Wanted : ℕ → ℕ → Type 0) (n : ℕ) (before now : List ℕ) : Type 0 where
+  pub marked : Marked (λ y. (k : ℕ) × (k < n) × Wanted y k) before now
+  pub same_length : length now ≡ length before
 
-  module _ {Wanted : ℕ → A → Type 0} {Fine : A → Type 0} {whole : List A} {before : List ℕ} where
-    pub marking_begun : Each Fine whole → Marking Wanted Fine whole whole before before
-    marking_begun f = record { is = λ y. (λ h. h, λ h. h); fine = f; same_length = refl }
+module _ {Wanted : ℕ → ℕ → Type 0} {before : List ℕ} where
+  pub marking_begun : Marking Wanted 0 before before
+  marking_begun = record { marked = marked_none before (λ y w. absurd (omega (arith, w.1))); same_length = refl }
 
-    pub marking_fine : {rest others : List A} {e : A} {now : List ℕ} → rest ≡ e ∷ others
-        → Marking Wanted Fine whole rest before now → Fine e
-    marking_fine s g = each_first s g.fine
+  pub marking_more : {n : ℕ} {now after : List ℕ} → length after ≡ length now → Marked (λ y. Wanted y n) now after
+      → Marking Wanted n before now → Marking Wanted (n + 1) before after
+  marking_more {n} {now} {after} len m g =
+      record {
+        marked = record { marks = λ y. (into y, out y) };
+        same_length = len ∙ g.same_length;
+      }
+    where
+      into : (y : ℕ) → plane_bit after y ≡ 1
+          → (plane_bit before y ≡ 1) ⊎ ((k : ℕ) × (k < n + 1) × Wanted y k)
+      into y b = elim ((m.marks y).0 b) [
+        | inl p ↦ elim ((g.marked.marks y).0 p) [ inl q ↦ inl q | inr w ↦ inr (w.0, omega (arith, w.1), w.2) ]
+        | inr w ↦ inr (n, omega arith, w)
+      ]
 
-    pub marking_more : {rest others : List A} {e : A} {now after : List ℕ} → rest ≡ e ∷ others
-        → length after ≡ length now → Marked (λ y. Wanted y e) now after
-        → Marking Wanted Fine whole rest before now → Marking Wanted Fine whole others before after
-    marking_more {rest} {others} {e} {now} {after} s len m g =
-        record {
-          is = λ y. (λ h. (d.is y).0 (into y h), λ h. out y ((d.is y).1 h));
-          fine = each_others s g.fine;
-          same_length = len ∙ g.same_length;
-        }
-      where
-        d : Marking Wanted Fine whole (e ∷ others) before now
-        d = subst (λ (es : List A). Marking Wanted Fine whole es before now) s g
+      out : (y : ℕ) → (plane_bit before y ≡ 1) ⊎ ((k : ℕ) × (k < n + 1) × Wanted y k) → plane_bit after y ≡ 1
+      out y (inl p) = (m.marks y).1 (inl ((g.marked.marks y).1 (inl p)))
+      out y (inr w) = at (ℕ_discrete w.0 n)
+        where
+          at : Dec (w.0 ≡ n) → plane_bit after y ≡ 1
+          at (yes e) = (m.marks y).1 (inr (subst (Wanted y) e w.2))
+          at (no d) = (m.marks y).1 (inl ((g.marked.marks y).1 (inr (w.0, omega (arith, w.1), w.2))))
 
-        into : (y : ℕ) → (plane_bit after y ≡ 1) ⊎ Some (Wanted y) others
-            → (plane_bit now y ≡ 1) ⊎ Some (Wanted y) (e ∷ others)
-        into y (inl b) = elim ((m.marks y).0 b) [ inl p ↦ inl p | inr w ↦ inr (some_cons.1 (inl w)) ]
-        into y (inr t) = inr (some_cons.1 (inr t))
-
-        out : (y : ℕ) → (plane_bit now y ≡ 1) ⊎ Some (Wanted y) (e ∷ others)
-            → (plane_bit after y ≡ 1) ⊎ Some (Wanted y) others
-        out y (inl p) = inl ((m.marks y).1 (inl p))
-        out y (inr t) = elim (some_cons.0 t) [ inl w ↦ inl ((m.marks y).1 (inr w)) | inr u ↦ inr u ]
-
-    pub marking_done : {rest : List A} {now : List ℕ} → rest ≡ [] → Marking Wanted Fine whole rest before now
-        → Marked (λ y. Some (Wanted y) whole) before now
-    marking_done {now} s g =
-        let d = subst (λ (es : List A). Marking Wanted Fine whole es before now) s g in
-        record {
-          marks = λ y. (
-            λ b. (d.is y).0 (inl b),
-            λ h. elim ((d.is y).1 h) [ inl b ↦ b | inr t ↦ absurd (Memᴰ.not-nil t.1) ],
-          );
-        }
+  -- the same in other words
+  pub marking_done : {i n : ℕ} {now : List ℕ} {Q : ℕ → Type 0} → i ≡ n
+      → ((y : ℕ) → Q y ↔ ((k : ℕ) × (k < n) × Wanted y k)) → Marking Wanted i before now → Marked Q before now
+  marking_done {now} e is h =
+      let g = subst (λ (j : ℕ). Marking Wanted j before now) e h in
+      record {
+        marks = λ y. (
+          λ b. elim ((g.marked.marks y).0 b) [ inl p ↦ inl p | inr w ↦ inr ((is y).1 w) ],
+          λ h. (g.marked.marks y).1 (elim h [ inl p ↦ inl p | inr q ↦ inr ((is y).0 q) ]),
+        );
+      }

@@ -34,10 +34,12 @@ pub record SetsClosed (rs : List Evidence) (target right m : ℕ) (plane : List 
 abbrev pub Keyless : List ℕ → ℕ → ℕ → ℕ → Type 0
 Keyless keys m right x = (right ≡ row → ⊥) → plane_bit keys (mirror m x) ≡ 0
 
--- an entry, if it is for the two, is marked as backed, is not marked as broken, contains no other, and contains no key
--- if the right is a column
+-- a left is marked as backed, is not marked as broken, contains no other, and contains no key if the right is a column
+abbrev pub SoundLeft : List ℕ → List ℕ → List ℕ → List ℕ → ℕ → ℕ → ℕ → Type 0
+SoundLeft backed broken keys lefts m right x =
+    (plane_bit backed x ≡ 1) × (plane_bit broken x ≡ 0) × Alone lefts m x × Keyless keys m right x
+
+-- an entry's left is so, if it is for the two
 abbrev pub SoundBy : List ℕ → List ℕ → List ℕ → List ℕ → ℕ → ℕ → ℕ → Entry → Type 0
 SoundBy backed broken keys lefts m target right e =
-    EntryFor target right e
-    → (plane_bit backed e.left ≡ 1) × (plane_bit broken e.left ≡ 0) × Alone lefts m e.left
-    × Keyless keys m right e.left
+    EntryFor target right e → SoundLeft backed broken keys lefts m right e.left

@@ -6,32 +6,31 @@
 // on `planes` for the closing. Called by `soundness` and `coverage`.
 #![tactic(auto)]
 
-ghost use Rattle.std.specs.Prelude.{ℕ, ◌+◌, ◌*◌, ◌^◌, ◌≤◌, ◌<◌, ◌≡◌, true, ◌↔◌, length};
+ghost use Rattle.std.specs.Prelude.{ℕ, ◌+◌, ◌^◌, ◌≤◌, ◌<◌, ◌≡◌, true, ◌↔◌, length};
 ghost use Rattle.columns.specs.Bound.{column_bound};
 ghost use Rattle.model.specs.Bytes.{byte_at};
-ghost use Rattle.model.specs.Entries.{entry_bytes, entry_at, entries_from};
-ghost use Rattle.model.specs.Evidence.{evidence_bytes, record_at, records_from};
 ghost use Rattle.planes.specs.Marks.{RoomFor, Marked};
 ghost use Rattle.evidence.specs.Lists.{Some, Each};
+ghost use Rattle.evidence.specs.Run.{record_of, records_of};
 ghost use Rattle.marks.specs.Marks.{Wide, mirror, CoveredBy, Alone};
 ghost use Rattle.marks.specs.Listed.{NarrowLeft, NarrowSet, LeftAt, SetAt, LeftsClosed, SetsClosed};
-ghost use Rattle.marks.specs.Listed.{Keyless, SoundBy};
+ghost use Rattle.marks.specs.Listed.{Keyless, SoundLeft, SoundBy};
+ghost use Rattle.marks.specs.Run.{entry_of, entries_of};
+
+mod run;
 
 use bits::power;
-use entries::entry_from;
-use evidence::record_at;
+use evidence::EvidenceRecords;
 use file::byte_at;
-use model::{ENTRY_BYTES, EVIDENCE_BYTES, ROW};
+use model::{EVIDENCE_BYTES, ROW};
 use planes::{PLANE, bit_at, mark};
+pub use run::PackedEntries;
 
 // For how many columns a plane of sets of n columns is made: n, and at least as many as fill a word.
 pub fn wide(n: u32) -> u32
     ensures { Wide n result }
 {
-    if n < 5 {
-        return 5;
-    }
-    n
+    n.max(5)
 }
 
 // The mirror of the set x: the columns of m that are not in it.
@@ -49,109 +48,70 @@ fn is_for(bytes: &[u8], at: usize, target: u32, right: u32) -> bool
     ensures { (result ≡ true)
         ↔ ((byte_at bytes.now at ≡ target) × (byte_at bytes.now (at + 1) ≡ right)) }
 {
-    if byte_at(bytes, at + 1) as u32 != right {
-        return false;
-    }
-    byte_at(bytes, at) as u32 == target
+    u32::from(byte_at(bytes, at + 1)) == right && u32::from(byte_at(bytes, at)) == target
 }
 
-// Marks the mirror of the left of the entry at a position, if it is for the two.
-fn mark_left(list: &[u8], at: usize, target: u32, right: u32, m: u32, plane: &mut [u32])
-    requires { RoomFor m plane.old × NarrowLeft m target right (entry_at list.now at)
-        × (at + entry_bytes ≤ length list.now) }
-    ensures { Marked (λ y. LeftAt m target right y (entry_at list.now at)) plane.old
-        plane.new }
+// Marks the mirror of the left of the entry at an index, if it is for the two.
+fn mark_left(list: PackedEntries, i: u32, target: u32, right: u32, m: u32, plane: &mut [u32])
+    requires { RoomFor m plane.old × (i < list.count) × NarrowLeft m target right (entry_of list i) }
+    ensures { Marked (λ y. LeftAt m target right y (entry_of list.entry i)) plane.old plane.new }
 {
-    if !is_for(list, at, target, right) {
+    if !is_for(list.file, list.place(i), target, right) {
         return;
     }
-    let e = entry_from(list, at);
-    let left = e.left as u32;
+    let left = u32::from(list.entry(i).left);
     let place = mirror(m, left);
     mark(plane, place);
 }
 
-// Marks the mirrors of the lefts of the entries from a position on that are for the two.
-fn mark_lefts(
-    list: &[u8],
-    count: u32,
-    first: usize,
-    target: u32,
-    right: u32,
-    m: u32,
-    plane: &mut [u32],
-)
-    requires { RoomFor m plane.old × (first + entry_bytes * count ≤ length list.now)
-        × Each (NarrowLeft m target right) (entries_from list.now count first) }
-    ensures { Marked (λ y. Some (LeftAt m target right y) (entries_from list.now count first))
-        plane.old plane.new }
+// Marks the mirrors of the lefts of the entries that are for the two.
+fn mark_lefts(list: PackedEntries, target: u32, right: u32, m: u32, plane: &mut [u32])
+    requires { RoomFor m plane.old × Each (NarrowLeft m target right) (entries_of list) }
+    ensures { Marked (λ y. Some (LeftAt m target right y) (entries_of list.entry)) plane.old plane.new }
 {
-    let mut at = first;
-    let mut rest = count;
-    while 0 < rest {
-        mark_left(list, at, target, right, m, plane);
-        at += ENTRY_BYTES;
-        rest -= 1;
+    for i in 0..list.count {
+        mark_left(list, i, target, right, m, plane);
     }
 }
 
 // The plane that says, by its mirror, of each set of m columns whether it contains a left that is listed for the two.
-pub fn close_lefts(
-    list: &[u8],
-    count: u32,
-    first: usize,
-    target: u32,
-    right: u32,
-    m: u32,
-    plane: &mut [u32],
-)
-    requires { RoomFor m plane.old × (first + entry_bytes * count ≤ length list.now)
-        × Each (NarrowLeft m target right) (entries_from list.now count first) }
-    ensures { LeftsClosed (entries_from list.now count first) target right m plane.new }
+pub fn close_lefts(list: PackedEntries, target: u32, right: u32, m: u32, plane: &mut [u32])
+    requires { RoomFor m plane.old × Each (NarrowLeft m target right) (entries_of list) }
+    ensures { LeftsClosed (entries_of list.entry) target right m plane.new }
 {
     let mut marks = [0; PLANE];
-    mark_lefts(list, count, first, target, right, m, &mut marks);
+    mark_lefts(list, target, right, m, &mut marks);
     planes::fill(&marks, m, m, plane);
 }
 
-// Marks the set of the record at a position, if it is for the two.
-fn mark_set(bytes: &[u8], at: usize, target: u32, right: u32, m: u32, plane: &mut [u32])
-    requires { RoomFor m plane.old × NarrowSet m target right (record_at bytes.now at)
-        × (at + evidence_bytes ≤ length bytes.now) }
-    ensures { Marked (λ y. SetAt target right y (record_at bytes.now at)) plane.old
-        plane.new }
+// Marks the set of the record at an index, if it is for the two.
+fn mark_set(records: EvidenceRecords, i: usize, target: u32, right: u32, m: u32, plane: &mut [u32])
+    requires { RoomFor m plane.old × (i < records.count) × NarrowSet m target right (record_of records i) }
+    ensures { Marked (λ y. SetAt target right y (record_of records.entry i)) plane.old plane.new }
 {
-    if !is_for(bytes, at, target, right) {
+    if !is_for(records.bytes, EVIDENCE_BYTES * i, target, right) {
         return;
     }
-    let e = record_at(bytes, at);
-    mark(plane, e.set as u32);
+    mark(plane, u32::from(records.record(i).set));
 }
 
-// Marks the sets of the first records that are for the two.
-fn mark_sets(bytes: &[u8], count: usize, target: u32, right: u32, m: u32, plane: &mut [u32])
-    requires { RoomFor m plane.old × (evidence_bytes * count ≤ length bytes.now)
-        × Each (NarrowSet m target right) (records_from bytes.now count 0) }
-    ensures { Marked (λ y. Some (SetAt target right y) (records_from bytes.now count 0))
-        plane.old plane.new }
+// Marks the sets of the records that are for the two.
+fn mark_sets(records: EvidenceRecords, target: u32, right: u32, m: u32, plane: &mut [u32])
+    requires { RoomFor m plane.old × Each (NarrowSet m target right) (records_of records) }
+    ensures { Marked (λ y. Some (SetAt target right y) (records_of records.entry)) plane.old plane.new }
 {
-    let mut at = 0;
-    let mut more = count;
-    while 0 < more {
-        mark_set(bytes, at, target, right, m, plane);
-        at += EVIDENCE_BYTES;
-        more -= 1;
+    for i in 0..records.count {
+        mark_set(records, i, target, right, m, plane);
     }
 }
 
 // The plane that says of each set of m columns whether it lies inside the set of a record for the two.
-pub fn close_sets(bytes: &[u8], count: usize, target: u32, right: u32, m: u32, plane: &mut [u32])
-    requires { RoomFor m plane.old × (evidence_bytes * count ≤ length bytes.now)
-        × Each (NarrowSet m target right) (records_from bytes.now count 0) }
-    ensures { SetsClosed (records_from bytes.now count 0) target right m plane.new }
+pub fn close_sets(records: EvidenceRecords, target: u32, right: u32, m: u32, plane: &mut [u32])
+    requires { RoomFor m plane.old × Each (NarrowSet m target right) (records_of records) }
+    ensures { SetsClosed (records_of records.entry) target right m plane.new }
 {
     let mut marks = [0; PLANE];
-    mark_sets(bytes, count, target, right, m, &mut marks);
+    mark_sets(records, target, right, m, &mut marks);
     planes::fill(&marks, m, m, plane);
 }
 
@@ -175,16 +135,10 @@ fn is_covered(
         return true;
     }
     let place = mirror(m, x);
-    if bit_at(keys, place) != 0 {
-        return true;
-    }
-    if bit_at(lefts, place) != 0 {
-        return true;
-    }
-    if bit_at(sets, x) != 0 {
-        return true;
-    }
-    bit_at(backed, x) == 0
+    bit_at(keys, place) != 0
+        || bit_at(lefts, place) != 0
+        || bit_at(sets, x) != 0
+        || bit_at(backed, x) == 0
 }
 
 // Are all backed sets of n columns covered that a is not in?
@@ -203,15 +157,7 @@ pub fn all_covered(
         ↔ ((x : ℕ) → x < 2 ^ n
         → CoveredBy backed.now keys.now lefts.now sets.now m a x) }
 {
-    let end = power(n);
-    let mut x = 0;
-    while x < end {
-        if !is_covered(backed, keys, lefts, sets, m, a, x) {
-            return false;
-        }
-        x += 1;
-    }
-    true
+    (0..power(n)).all(|x| is_covered(backed, keys, lefts, sets, m, a, x))
 }
 
 // Does x contain no other listed left? It goes over the members of x, the lowest first: x without any one of them must
@@ -237,17 +183,33 @@ fn is_keyless(keys: &[u32], m: u32, right: u32, x: u32) -> bool
     requires { RoomFor m keys.now × (x < 2 ^ m) }
     ensures { (result ≡ true) ↔ Keyless keys.now m right x }
 {
-    if right == ROW {
-        return true;
-    }
-    bit_at(keys, mirror(m, x)) == 0
+    right == ROW || bit_at(keys, mirror(m, x)) == 0
 }
 
-// If the entry at a position is for the two, is it backed and not broken, and does it contain no other, nor a key if
-// the right is a column?
+// Is the left x backed and not broken, and does it contain no other, nor a key if the right is a column?
 fn is_sound(
-    list: &[u8],
-    at: usize,
+    right: u32,
+    x: u32,
+    backed: &[u32],
+    broken: &[u32],
+    keys: &[u32],
+    lefts: &[u32],
+    m: u32,
+) -> bool
+    requires { RoomFor m backed.now × RoomFor m broken.now × RoomFor m keys.now × RoomFor m lefts.now
+        × (x < 2 ^ m) }
+    ensures { (result ≡ true) ↔ SoundLeft backed.now broken.now keys.now lefts.now m right x }
+{
+    bit_at(backed, x) != 0
+        && bit_at(broken, x) == 0
+        && is_keyless(keys, m, right, x)
+        && is_alone(lefts, m, x)
+}
+
+// If the entry at an index is for the two, is its left so?
+fn entry_sound(
+    list: PackedEntries,
+    i: u32,
     target: u32,
     right: u32,
     backed: &[u32],
@@ -257,34 +219,22 @@ fn is_sound(
     m: u32,
 ) -> bool
     requires { RoomFor m backed.now × RoomFor m broken.now × RoomFor m keys.now × RoomFor m lefts.now
-        × NarrowLeft m target right (entry_at list.now at) × (at + entry_bytes ≤ length list.now) }
+        × (i < list.count) × NarrowLeft m target right (entry_of list i) }
     ensures { (result ≡ true)
         ↔ SoundBy backed.now broken.now keys.now lefts.now m target right
-        (entry_at list.now at) }
+        (entry_of list.entry i) }
 {
-    if !is_for(list, at, target, right) {
+    if !is_for(list.file, list.place(i), target, right) {
         return true;
     }
-    let e = entry_from(list, at);
-    let left = e.left as u32;
-    if bit_at(backed, left) == 0 {
-        return false;
-    }
-    if bit_at(broken, left) != 0 {
-        return false;
-    }
-    if !is_keyless(keys, m, right, left) {
-        return false;
-    }
-    is_alone(lefts, m, left)
+    let left = u32::from(list.entry(i).left);
+    is_sound(right, left, backed, broken, keys, lefts, m)
 }
 
-// Is each entry from a position on that is for the two backed and not broken, and does none of them contain another,
-// nor a key if the right is a column?
+// Is each entry that is for the two backed and not broken, and does none of them contain another, nor a key if the
+// right is a column?
 pub fn entries_sound(
-    list: &[u8],
-    count: u32,
-    first: usize,
+    list: PackedEntries,
     target: u32,
     right: u32,
     backed: &[u32],
@@ -294,20 +244,15 @@ pub fn entries_sound(
     m: u32,
 ) -> bool
     requires { RoomFor m backed.now × RoomFor m broken.now × RoomFor m keys.now × RoomFor m lefts.now
-        × (first + entry_bytes * count ≤ length list.now)
-        × Each (NarrowLeft m target right) (entries_from list.now count first) }
+        × Each (NarrowLeft m target right) (entries_of list) }
     ensures { (result ≡ true)
         ↔ Each (SoundBy backed.now broken.now keys.now lefts.now m target
-        right) (entries_from list.now count first) }
+        right) (entries_of list.entry) }
 {
-    let mut at = first;
-    let mut rest = count;
-    while 0 < rest {
-        if !is_sound(list, at, target, right, backed, broken, keys, lefts, m) {
+    for i in 0..list.count {
+        if !entry_sound(list, i, target, right, backed, broken, keys, lefts, m) {
             return false;
         }
-        at += ENTRY_BYTES;
-        rest -= 1;
     }
     true
 }

@@ -2,6 +2,7 @@
 -- passed; and tests tried in order, where the first that refuses is the answer.
 use Prim.Native.Nat.{ℕ, ◌≤◌}
 use mathlib.Core.Path.{◌≡◌, ap, ◌∙◌}
+use mathlib.Core.List.{List}
 use native.Mathlib.Omega.{arith}
 use lib.Dec.{lit≤}
 use Rattle.std.specs.Prelude.{Result, Ok, Err, IsErrAnd}
@@ -13,7 +14,8 @@ use Rattle.model.specs.declared.Refusal.TheVariants.{UnknownColumn, UnknownRight
 use Rattle.model.specs.declared.Refusal.TheVariants.{RunTooShort, NoList, BadEntry, OutputTooShort}
 use Rattle.model.specs.declared.Refusal.TheVariants.{FalseRecord, UnsoundEntry, UncoveredSet}
 use Rattle.model.specs.declared.Refusal.TheVariants.{BadText, UnfitText, NoRoom}
-use Rattle.model.proofs.Grounds.{is_this, is_next}
+use Rattle.model.specs.Reply.{Reply, refused, reply_of}
+use Rattle.model.proofs.Grounds.{is_this, is_next, reply_refused}
 
 pub number_range : (r : Refusal) → (1 ≤ number r) × (number r ≤ last_refusal)
 number_range FileTooShort = (lit≤ tt, lit≤ tt)
@@ -58,3 +60,11 @@ handed_on (Err y) why h e = ap number h ∙ e
 pub handed_first : {A : Type 0} (r : Result A Refusal) (why : Refusal) {a : ℕ} (b : ℕ)
     → IsErrAnd r (λ e. e ≡ why) → number why ≡ a → code_of r ≡ or_else a b
 handed_first r why b h e = handed_on r why h (refused_first _ b e)
+
+-- and what a call replies that gives it back
+pub handed_reply : {A : Type 0} (reply : Result A Refusal → Reply) → ((e : Refusal) → reply (Err e) ≡ refused (number e))
+    → (r : Result A Refusal) (why : Refusal) {code : ℕ} (values : List ℕ) → IsErrAnd r (λ e. e ≡ why) → number why ≡ code
+    → reply r ≡ reply_of code values
+handed_reply reply each (Ok x) why values h e = absurd h
+handed_reply reply each (Err y) why values h e =
+    each y ∙ reply_refused values (ap number h ∙ e) (number_pos y)

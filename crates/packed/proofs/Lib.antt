@@ -4,3 +4,4 @@ pub mod Round
 pub mod Opening
 pub mod Reading
 pub mod Filling
+pub mod Packing

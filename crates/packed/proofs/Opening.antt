@@ -1,13 +1,12 @@
 -- What opening a file answers, ground by ground: 14 by its three tests, then 15, then the list. And back: what an
 -- answer tells of the file.
-use Prim.Native.Nat.{ℕ, ◌+◌, ◌-◌, ◌≤◌, ◌<◌}
-use mathlib.Core.Path.{◌≡◌, refl, sym, ap, ap₂, ◌∙◌}
+use Prim.Native.Nat.{ℕ, ◌+◌, ◌-◌, ◌≤◌}
+use mathlib.Core.Path.{◌≡◌, sym, ap, ap₂, ◌∙◌}
 use mathlib.Core.List.{List, [], ◌∷◌}
-use mathlib.Core.Bool.{Bool, true, false}
 use native.Mathlib.Decide.{ℕ_discrete}
 use native.Mathlib.Omega.{arith}
 use lib.ListN.{length, get_or}
-use Rattle.columns.proofs.Test.{if_eq_yes, if_eq_no, is_if_eq, is_if_ne, is_if_lt, is_if_not_lt}
+use Rattle.columns.proofs.Test.{if_eq_yes, if_eq_no}
 use Rattle.model.specs.Refusal.{number}
 use Rattle.model.specs.Reply.{Reply, refused, answered, reply_of}
 use Rattle.model.specs.Entries.{entries_from, entries_code}
@@ -15,58 +14,40 @@ use Rattle.model.specs.Packing.{trailer_bytes, distance_of}
 use Rattle.model.specs.Reading.{entries_held, count_in, distance_in, tail_code, read_code, open_meaning}
 use Rattle.model.specs.declared.Refusal.TheVariants.{NoList, BadEntry}
 use Rattle.model.proofs.Grounds.{or_else_left}
-use Rattle.entries.specs.Verdict.{bad_unless}
-use Rattle.model.proofs.Grounds.{or_else_first, or_else_next, reply_refused, reply_answered}
+use Rattle.model.proofs.Grounds.{is_this, or_else_next, reply_refused, reply_answered}
 use Rattle.entries.proofs.Checks.{bad_some}
-use Rattle.packed.proofs.Trailer.{list_some, listed, lists}
+use Rattle.packed.proofs.Trailer.{list_some, listed, lists, unlisted}
 
 -- 14
-no_list : (file : List ℕ) → number NoList ≡ tail_code file → refused (number NoList) ≡ open_meaning file
+pub no_list : (file : List ℕ) {d k : ℕ} → d ≡ distance_in file → k ≡ count_in file
+    → (trailer_bytes ≤ length file → d ≡ distance_of k → d ≤ length file → ⊥)
+    → refused (number NoList) ≡ open_meaning file
 unfolding open_meaning read_code
-no_list file e =
-    reply_refused _ (e ∙ sym (or_else_first _ (λ z. list_some (e ∙ z)))) list_some
-
-pub too_short : (file : List ℕ) → length file < trailer_bytes → refused (number NoList) ≡ open_meaning file
-unfolding tail_code
-too_short file h = no_list file (is_if_lt _ h refl)
-
-pub wrong_distance : (file : List ℕ) {d k : ℕ} → trailer_bytes ≤ length file → d ≡ distance_in file → k ≡ count_in file
-    → (d ≡ distance_of k → ⊥) → refused (number NoList) ≡ open_meaning file
-unfolding tail_code
-wrong_distance file h p q n =
-    no_list file (is_if_not_lt _ h (is_if_ne _ (λ z. n (p ∙ z ∙ ap distance_of (sym q))) refl))
-
-pub too_far : (file : List ℕ) {d k : ℕ} → trailer_bytes ≤ length file → d ≡ distance_in file → k ≡ count_in file
-    → d ≡ distance_of k
-    → length file < d → refused (number NoList) ≡ open_meaning file
-unfolding tail_code
-too_far file h p q e l =
-    no_list file
-    (is_if_not_lt _ h (is_if_eq _ (sym p ∙ e ∙ ap distance_of q) (is_if_lt _ (omega arith) refl)))
+no_list file {d} {k} p q n =
+    let e = unlisted file (λ l. n l.trailer (p ∙ l.distance ∙ ap distance_of (sym q)) (omega (arith, l.fits))) in
+    reply_refused _ (is_this _ e list_some) list_some
 
 -- 15, and the list
-module _ (file : List ℕ) {d k : ℕ} (t : Bool) (h : trailer_bytes ≤ length file) (p : d ≡ distance_in file)
-    (q : k ≡ count_in file)
-    (e : d ≡ distance_of k) (l : d ≤ length file)
-    (r : bad_unless t ≡ entries_code (entries_from file k (length file - d))) where
+module _ (file : List ℕ) {d k : ℕ} (h : trailer_bytes ≤ length file) (p : d ≡ distance_in file) (q : k ≡ count_in file)
+    (e : d ≡ distance_of k) (l : d ≤ length file) where
   is_list : tail_code file ≡ 0
   is_list =
       lists file (record { trailer = h; distance = sym p ∙ e ∙ ap distance_of q; fits = omega arith })
 
-  checked : bad_unless t ≡ read_code file
+  checked : entries_code (entries_from file k (length file - d)) ≡ read_code file
   unfolding read_code entries_held
-  checked =
-      r ∙ ap entries_code (ap₂ (λ (m n : ℕ). entries_from file m (length file - n)) q p) ∙ sym (or_else_next _ is_list)
+  checked = ap entries_code (ap₂ (λ (m n : ℕ). entries_from file m (length file - n)) q p) ∙ sym (or_else_next _ is_list)
 
-  pub bad_list : t ≡ false → refused (number BadEntry) ≡ open_meaning file
+  pub bad_list : number BadEntry ≡ entries_code (entries_from file k (length file - d))
+      → refused (number BadEntry) ≡ open_meaning file
   unfolding open_meaning
-  bad_list n = reply_refused _ (sym (ap bad_unless n) ∙ checked) bad_some
+  bad_list r = reply_refused _ (r ∙ checked) bad_some
 
-  pub good_list : t ≡ true → answered (k ∷ (length file - d) ∷ []) ≡ open_meaning file
+  pub good_list : 0 ≡ entries_code (entries_from file k (length file - d))
+      → answered (k ∷ (length file - d) ∷ []) ≡ open_meaning file
   unfolding open_meaning
-  good_list n =
-      ap₂ (λ (m n : ℕ). answered (m ∷ (length file - n) ∷ [])) q p
-      ∙ reply_answered _ (sym checked ∙ ap bad_unless n)
+  good_list r =
+      ap₂ (λ (m n : ℕ). answered (m ∷ (length file - n) ∷ [])) q p ∙ reply_answered _ (sym (r ∙ checked))
 
 -- ---- a reply tells its code and its values, and so what opening answered tells what the file is
 abbrev values_in : Reply → List ℕ

@@ -1,17 +1,18 @@
--- A reading entry by entry: its answers are the file's entries in order, then 'end', for every file.
+-- A reading entry by entry: its answers are the file's entries in order, then none, for every file.
 use Prim.Native.Nat.{ℕ, zero, suc, ◌-◌, ◌<◌, min}
 use mathlib.Core.Path.{◌≡◌, sym, ap, ap₂, ◌∙◌}
 use mathlib.Core.List.{List, [], ◌∷◌}
 use native.Mathlib.Omega.{arith}
 use native.Mathlib.Decide.{dec_lt}
 use lib.ListN.{length}
+use Rattle.std.specs.Prelude.{Result, Ok, Err}
 use denote.Ref.{Bor}
 use Rattle.columns.proofs.Test.{if_eq_yes, if_eq_no, if_lt_yes, if_lt_no}
 use Rattle.model.specs.Reply.{refused, answered, reply_of, open_reply}
 use Rattle.model.specs.Reading.{count_in, distance_in, entries_read, front_read, read_code, open_meaning, read_at}
 use Rattle.model.specs.declared.Entry.{Entry}
-use Rattle.model.specs.declared.OpenAnswer.{OpenAnswer}
-use Rattle.model.specs.declared.OpenAnswer.TheVariants.{Opened, Refused}
+use Rattle.model.specs.declared.Opened.{Opened}
+use Rattle.model.specs.declared.Refusal.{Refusal}
 use Rattle.entries.proofs.Entries.{read_past}
 use Rattle.unpacking.specs.Reading.{entries_by, front_by, after_in}
 use Rattle.packed.specs.Reading.{Begun, entry_next, reader_after, Reads}
@@ -29,15 +30,15 @@ module _ (file : List ℕ) where
   refuses p = (refused_by (read_code file) (count_in file ∷ (length file - distance_in file) ∷ []) p).1
 
   -- so what may be read by the answer is what may be read of the file
-  pub entries_by_lem : (a : OpenAnswer) → open_reply a ≡ open_meaning file → entries_by a file ≡ entries_read file
+  pub entries_by_lem : (a : Result Opened Refusal) → open_reply a ≡ open_meaning file → entries_by a file ≡ entries_read file
   unfolding entries_by entries_read
-  entries_by_lem (Opened k n) p = sym (if_eq_yes _ (accepts p))
-  entries_by_lem (Refused r) p = sym (if_eq_no _ (refuses p))
+  entries_by_lem (Ok o) p = sym (if_eq_yes _ (accepts p))
+  entries_by_lem (Err r) p = sym (if_eq_no _ (refuses p))
 
-  pub front_by_lem : (a : OpenAnswer) → open_reply a ≡ open_meaning file → front_by a file ≡ front_read file
+  pub front_by_lem : (a : Result Opened Refusal) → open_reply a ≡ open_meaning file → front_by a file ≡ front_read file
   unfolding front_by front_read
-  front_by_lem (Opened k n) p = sym (if_eq_yes _ (accepts p))
-  front_by_lem (Refused r) p = sym (if_eq_no _ (refuses p))
+  front_by_lem (Ok o) p = sym (if_eq_yes _ (accepts p))
+  front_by_lem (Err r) p = sym (if_eq_no _ (refuses p))
 
 -- a reading of any entries goes on to their end and stays there
 after_min : (es : List Entry) (n : ℕ) → after_in es (min n (length es)) ≡ min (suc n) (length es)

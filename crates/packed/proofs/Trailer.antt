@@ -1,11 +1,13 @@
 -- The trailer's two numbers are read back behind any bytes; and a list that is one (no ground by 14) has the trailer
 -- that its numbers say.
 use Prim.Native.Nat.{ℕ, ◌+◌, ◌-◌, ◌≤◌, ◌<◌}
-use mathlib.Core.Path.{◌≡◌, ap, ◌∙◌}
+use mathlib.Core.Path.{◌≡◌, refl, ap, ◌∙◌}
+use native.Mathlib.Decide.{dec_lt, ℕ_discrete}
 use mathlib.Core.List.{List, [], ◌++◌}
 use native.Mathlib.Omega.{arith}
 use lib.ListN.{length, length-append}
-use Rattle.columns.proofs.Test.{if_eq_yes, if_lt_no}
+use Rattle.columns.specs.Test.{if_eq, if_lt}
+use Rattle.columns.proofs.Test.{if_eq_yes, if_lt_no, is_if_eq, is_if_ne, is_if_lt, is_if_not_lt}
 use Rattle.model.specs.Bytes.{u32_at, bytes4}
 use Rattle.model.specs.Refusal.{number}
 use Rattle.model.specs.Packing.{trailer_bytes, distance_of}
@@ -58,3 +60,24 @@ pub lists : (file : List ℕ) → Tailed file → tail_code file ≡ 0
 unfolding tail_code
 lists file l = if_lt_no (number NoList) l.trailer ∙ if_eq_yes (number NoList) l.distance
     ∙ if_lt_no (number NoList) l.fits
+
+-- else there is a ground
+pub unlisted : (file : List ℕ) → (Tailed file → ⊥) → number NoList ≡ tail_code file
+unfolding tail_code
+unlisted file n = first (dec_lt (length file) trailer_bytes)
+  where
+    last : trailer_bytes ≤ length file → distance_in file ≡ distance_of (count_in file)
+        → Dec (length file < distance_in file) → number NoList ≡ if_lt (length file) (distance_in file) (number NoList) 0
+    last h e (yes l) = is_if_lt _ l refl
+    last h e (no m) = absurd (n (record { trailer = h; distance = e; fits = omega arith }))
+
+    next : trailer_bytes ≤ length file → Dec (distance_in file ≡ distance_of (count_in file))
+        → number NoList
+        ≡ if_eq (distance_in file) (distance_of (count_in file)) (if_lt (length file) (distance_in file) (number NoList) 0)
+        (number NoList)
+    next h (yes e) = is_if_eq _ e (last h e (dec_lt (length file) (distance_in file)))
+    next h (no m) = is_if_ne _ m refl
+
+    first : Dec (length file < trailer_bytes) → number NoList ≡ tail_code file
+    first (yes h) = is_if_lt _ h refl
+    first (no m) = is_if_not_lt _ (omega arith) (next (omega arith) (ℕ_discrete (distance_in file) (distance_of (count_in file))))

@@ -1,3 +1,2 @@
 pub mod Round
 pub mod Reading
-pub mod Filling

@@ -5,179 +5,172 @@
 #![tactic(auto)]
 
 mod pack;
-mod print;
 mod reading;
 
 ghost use Rattle.std.specs.Prelude.{◌≤◌};
 
-use pack::pack_bytes;
-use print::{print_bytes, print_head, print_packed};
-use reading::print_steps;
+use pack::{List, file_of, pack_list};
+use reading::{print_opened, print_steps};
 use std::io;
 use text::{put_byte, put_word};
-use trial_kit::{ALBUM, end, print_word};
+use trial_kit::{ALBUM, print_answer};
 
-// The album's listing: {0} gives column 2; {0, 1} and {1, 2} give the row. And the trailer of a list of three.
-const LISTING: [u8; 12] = [1, 2, 1, 0, 1, 255, 3, 0, 1, 255, 6, 0];
+// The album's listing: {0} gives column 2; {0, 1} and {1, 2} give the row.
+const LISTING: List = [[1, 2, 1, 0], [1, 255, 3, 0], [1, 255, 6, 0]];
 
-const TRAILER: [u8; 8] = [3, 0, 0, 0, 20, 0, 0, 0];
+// What is said of lists of three entries, and the lists.
+const LISTS: [(&str, &[List]); 6] = [
+    (
+        "target over 15",
+        &[
+            [[16, 2, 1, 0], [1, 255, 3, 0], [1, 255, 6, 0]],
+            [[1, 2, 1, 0], [16, 255, 3, 0], [16, 255, 6, 0]],
+            [[1, 2, 1, 0], [1, 255, 3, 0], [16, 255, 6, 0]],
+        ],
+    ),
+    (
+        "right 16, 254",
+        &[
+            [[1, 16, 1, 0], [1, 255, 3, 0], [1, 255, 6, 0]],
+            [[1, 2, 1, 0], [1, 254, 3, 0], [1, 255, 6, 0]],
+            [[1, 2, 1, 0], [1, 255, 3, 0], [1, 16, 6, 0]],
+        ],
+    ),
+    (
+        "right in left",
+        &[
+            [[1, 0, 1, 0], [1, 255, 3, 0], [1, 255, 6, 0]],
+            [[1, 2, 1, 0], [1, 1, 3, 0], [1, 255, 6, 0]],
+            [[1, 2, 1, 0], [1, 255, 3, 0], [1, 2, 6, 0]],
+        ],
+    ),
+    (
+        "equal to the one before",
+        &[
+            [[1, 255, 3, 0], [1, 255, 3, 0], [1, 255, 6, 0]],
+            [[1, 2, 1, 0], [1, 255, 6, 0], [1, 255, 6, 0]],
+        ],
+    ),
+    (
+        "before the one before: by target, size, number, right",
+        &[
+            [[2, 2, 1, 0], [1, 255, 3, 0], [1, 255, 6, 0]],
+            [[1, 2, 1, 0], [1, 255, 3, 0], [1, 255, 4, 0]],
+            [[1, 2, 1, 0], [1, 255, 6, 0], [1, 255, 3, 0]],
+            [[1, 2, 1, 0], [1, 255, 3, 0], [1, 2, 3, 0]],
+        ],
+    ),
+    (
+        "in order: 4 before 3, a column before the row, target 15, right 15",
+        &[
+            [[1, 255, 4, 0], [1, 2, 3, 0], [1, 255, 3, 0]],
+            [[0, 15, 0, 0], [0, 255, 0, 0], [15, 255, 0, 0]],
+        ],
+    ),
+];
 
-// Opens a file, and counts the bytes of the part in front.
+// Opens a file, and counts the bytes of the part in front, to the end of the line.
 fn read(rt: &impl Print, file: &[u8]) -> io::Result<()> {
-    print_head(rt, packed::open(file), packed::front(file))?;
-    end(rt)
+    print_opened(rt, packed::open(file), packed::front(file))?;
+    println!(rt; "")
 }
 
-// Packs the first k entries of the album's listing, and prints the output.
-fn pack_listing(rt: &impl Print, k: usize, out: &mut [u8]) -> io::Result<()>
+// The first k entries of a list, packed into an output of so many bytes.
+fn print_packed<const N: usize>(rt: &impl Print, list: List, k: usize) -> io::Result<[u8; N]>
     requires { k ≤ 3 }
 {
-    print_packed(rt, pack_bytes(&LISTING, k, out))?;
-    print_bytes(rt, out)
+    let (answer, out) = pack_list(list, k);
+    print_answer(rt, answer, |bytes| print!(rt; "packed {bytes}"))?;
+    Ok(out)
 }
 
-// Lists of 0, 1 and 3 entries, packed into an output that is longer, just fits, and is one byte short; 7 stands where
-// nothing is written.
-fn none(rt: &impl Print) -> io::Result<()> {
-    let mut long = [7u8; 10];
-    pack_listing(rt, 0, &mut long)?;
-    let mut fits = [7u8; 8];
-    pack_listing(rt, 0, &mut fits)?;
-    let mut short = [7u8; 7];
-    pack_listing(rt, 0, &mut short)?;
-    read(rt, &fits)
+// The same of the album's listing, with the output to the end of the line.
+fn print_listing<const N: usize>(rt: &impl Print, k: usize) -> io::Result<[u8; N]>
+    requires { k ≤ 3 }
+{
+    let out = print_packed::<N>(rt, LISTING, k)?;
+    for byte in out {
+        print!(rt; " {byte}")?;
+    }
+    println!(rt; "")?;
+    Ok(out)
 }
 
-fn one(rt: &impl Print) -> io::Result<()> {
-    let mut long = [7u8; 14];
-    pack_listing(rt, 1, &mut long)?;
-    let mut fits = [7u8; 12];
-    pack_listing(rt, 1, &mut fits)?;
-    let mut short = [7u8; 11];
-    pack_listing(rt, 1, &mut short)?;
-    read(rt, &fits)
-}
-
-fn three(rt: &impl Print) -> io::Result<()> {
-    let mut long = [7u8; 22];
-    pack_listing(rt, 3, &mut long)?;
-    let mut fits = [7u8; 20];
-    pack_listing(rt, 3, &mut fits)?;
-    let mut short = [7u8; 19];
-    pack_listing(rt, 3, &mut short)?;
-    read(rt, &fits)
+// Lists of 0, 1 and 3 entries, each packed into an output that is longer, just fits, and is one byte short; and read.
+fn sizes(rt: &impl Print) -> io::Result<()> {
+    print_listing::<10>(rt, 0)?;
+    let none = print_listing::<8>(rt, 0)?;
+    print_listing::<7>(rt, 0)?;
+    read(rt, &none)?;
+    print_listing::<14>(rt, 1)?;
+    let one = print_listing::<12>(rt, 1)?;
+    print_listing::<11>(rt, 1)?;
+    read(rt, &one)?;
+    print_listing::<22>(rt, 3)?;
+    let three = print_listing::<20>(rt, 3)?;
+    print_listing::<19>(rt, 3)?;
+    read(rt, &three)
 }
 
 // The album's listing behind the album, the same with a target of 16, and a list of none behind the album.
 fn behind(rt: &impl Print) -> io::Result<()> {
     let mut file = [0u8; 104];
     put_word(&mut file, 0, &ALBUM);
-    put_word(&mut file, 84, &LISTING);
-    put_word(&mut file, 96, &TRAILER);
+    put_word(&mut file, 84, &file_of(LISTING, 3, 20));
     read(rt, &file)?;
     put_byte(&mut file, 84, 16);
     read(rt, &file)?;
     let mut other = [0u8; 92];
     put_word(&mut other, 0, &ALBUM);
-    let none = [0, 0, 0, 0, 8, 0, 0, 0];
-    put_word(&mut other, 84, &none);
+    put_byte(&mut other, 88, 8);
     read(rt, &other)
 }
 
-// Three entries, packed, and read as a list that was not packed by `pack`.
-fn both(rt: &impl Print, bytes: [u8; 12]) -> io::Result<()> {
-    let mut out = [0u8; 20];
-    print_packed(rt, pack_bytes(&bytes, 3, &mut out))?;
-    print_word(rt, b"; ")?;
-    let mut file = [0u8; 20];
-    put_word(&mut file, 0, &bytes);
-    put_word(&mut file, 12, &TRAILER);
-    read(rt, &file)
-}
-// 15 at the first, the middle and the last entry.
+// 15 at the first, the middle and the last entry: three entries, packed, and read as a list that was not packed by
+// `pack`.
 fn bad_entries(rt: &impl Print) -> io::Result<()> {
-    print_word(rt, b"target over 15\n")?;
-    both(rt, [16, 2, 1, 0, 1, 255, 3, 0, 1, 255, 6, 0])?;
-    both(rt, [1, 2, 1, 0, 16, 255, 3, 0, 16, 255, 6, 0])?;
-    both(rt, [1, 2, 1, 0, 1, 255, 3, 0, 16, 255, 6, 0])?;
-    print_word(rt, b"right 16, 254\n")?;
-    both(rt, [1, 16, 1, 0, 1, 255, 3, 0, 1, 255, 6, 0])?;
-    both(rt, [1, 2, 1, 0, 1, 254, 3, 0, 1, 255, 6, 0])?;
-    both(rt, [1, 2, 1, 0, 1, 255, 3, 0, 1, 16, 6, 0])?;
-    print_word(rt, b"right in left\n")?;
-    both(rt, [1, 0, 1, 0, 1, 255, 3, 0, 1, 255, 6, 0])?;
-    both(rt, [1, 2, 1, 0, 1, 1, 3, 0, 1, 255, 6, 0])?;
-    both(rt, [1, 2, 1, 0, 1, 255, 3, 0, 1, 2, 6, 0])?;
-    print_word(rt, b"equal to the one before\n")?;
-    both(rt, [1, 255, 3, 0, 1, 255, 3, 0, 1, 255, 6, 0])?;
-    both(rt, [1, 2, 1, 0, 1, 255, 6, 0, 1, 255, 6, 0])?;
-    print_word(
-        rt,
-        b"before the one before: by target, size, number, right\n",
-    )?;
-    both(rt, [2, 2, 1, 0, 1, 255, 3, 0, 1, 255, 6, 0])?;
-    both(rt, [1, 2, 1, 0, 1, 255, 3, 0, 1, 255, 4, 0])?;
-    both(rt, [1, 2, 1, 0, 1, 255, 6, 0, 1, 255, 3, 0])?;
-    both(rt, [1, 2, 1, 0, 1, 255, 3, 0, 1, 2, 3, 0])?;
-    print_word(
-        rt,
-        b"in order: 4 before 3, a column before the row, target 15, right 15\n",
-    )?;
-    both(rt, [1, 255, 4, 0, 1, 2, 3, 0, 1, 255, 3, 0])?;
-    both(rt, [0, 15, 0, 0, 0, 255, 0, 0, 15, 255, 0, 0])
+    for (name, lists) in LISTS {
+        println!(rt; "{name}")?;
+        for list in lists {
+            print_packed::<20>(rt, *list, 3)?;
+            print!(rt; "; ")?;
+            read(rt, &file_of(*list, 3, 20))?;
+        }
+    }
+    Ok(())
 }
 
 // 14: no byte at all, under 8 bytes, a distance that is not 4k + 8 (with the count that fits it there are two
 // entries, and four bytes in front), and one above the length.
 fn no_lists(rt: &impl Print) -> io::Result<()> {
-    print_word(rt, b"no list\n")?;
-    let nothing = [0u8; 0];
-    read(rt, &nothing)?;
-    let five = [1, 0, 255, 255, 2];
-    read(rt, &five)?;
-    let short = [7u8; 7];
-    read(rt, &short)?;
-    let mut file = [0u8; 20];
-    put_word(&mut file, 0, &LISTING);
-    put_word(&mut file, 12, &TRAILER);
-    put_byte(&mut file, 16, 16);
-    read(rt, &file)?;
-    put_byte(&mut file, 12, 2);
-    read(rt, &file)?;
-    put_byte(&mut file, 12, 4);
-    put_byte(&mut file, 16, 24);
-    read(rt, &file)
-}
-
-// A reading of a file, in so many steps.
-fn read_on(rt: &impl Print, file: &[u8], steps: u32) -> io::Result<()> {
-    print_steps(rt, file, steps)?;
-    end(rt)
+    println!(rt; "no list")?;
+    read(rt, &[])?;
+    read(rt, &[1, 0, 255, 255, 2])?;
+    read(rt, &[7; 7])?;
+    read(rt, &file_of(LISTING, 3, 16))?;
+    read(rt, &file_of(LISTING, 2, 16))?;
+    read(rt, &file_of(LISTING, 4, 24))
 }
 
 // Readings to the end and one step past it: of none, of three, of three behind the album, of the same with a last
 // target of 16, and of seven bytes. A refused list gives no entry, though its first ones are good.
 fn readings(rt: &impl Print) -> io::Result<()> {
-    print_word(rt, b"readings\n")?;
-    let mut none = [0u8; 8];
-    pack_bytes(&LISTING, 0, &mut none);
-    read_on(rt, &none, 2)?;
-    let mut three = [0u8; 20];
-    pack_bytes(&LISTING, 3, &mut three);
-    read_on(rt, &three, 5)?;
+    println!(rt; "readings")?;
+    let (_, none) = pack_list::<8>(LISTING, 0);
+    print_steps(rt, &none, 2)?;
+    let (_, three) = pack_list::<20>(LISTING, 3);
+    print_steps(rt, &three, 5)?;
     let mut file = [0u8; 104];
     put_word(&mut file, 0, &ALBUM);
     put_word(&mut file, 84, &three);
-    read_on(rt, &file, 5)?;
+    print_steps(rt, &file, 5)?;
     put_byte(&mut file, 92, 16);
-    read_on(rt, &file, 2)?;
-    read_on(rt, &ALBUM[..7], 2)
+    print_steps(rt, &file, 2)?;
+    print_steps(rt, &ALBUM[..7], 2)
 }
 
 fn main(rt: HostRuntime) -> io::Result<()> {
-    none(&rt)?;
-    one(&rt)?;
-    three(&rt)?;
+    sizes(&rt)?;
     behind(&rt)?;
     bad_entries(&rt)?;
     no_lists(&rt)?;

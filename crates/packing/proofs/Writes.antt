@@ -5,7 +5,7 @@ use mathlib.Core.List.{List, [], ◌∷◌, ◌++◌, append_assoc, append-nil}
 use native.Mathlib.Numerals.{add-one, towards_suc}
 use native.Mathlib.Omega.{arith}
 use lib.ListN.{length, length-append, length-drop, get_or, set, take, drop}
-use lib.Seq.{sets, sets-eq, take-append_seam, drop-append-add, drop-drop, take-suc, length-take-le}
+use lib.Seq.{sets, sets-eq, take-append_seam, drop-append-add, drop-drop, take-suc, length-take-le, drop-cons, take_all}
 use Rattle.model.specs.Bytes.{bytes2, bytes4}
 use Rattle.model.specs.Entry.{entry}
 use Rattle.model.specs.Entries.{entry_bytes, bytes_of, entries_bytes}
@@ -13,7 +13,6 @@ use Rattle.model.specs.Packing.{trailer_bytes, distance_of, packed}
 use Rattle.model.specs.declared.Entry.{Entry}
 use Rattle.entries.proofs.OneEntry.{length_entry}
 use Rattle.entries.proofs.Entries.{length_entries}
-use Rattle.packing.specs.Packing.{with_trailer}
 
 -- an entry: two bytes and a number
 pub stores_entry : (l : List ℕ) (i : ℕ) (e : Entry)
@@ -64,6 +63,10 @@ writes_entry es o out i {e} h room p q =
     ∙ sym (append_assoc (entries_bytes (take i es)) (bytes_of f) (drop entry_bytes (drop (entry_bytes * i) o))))
 
 -- the trailer is written behind all: the count behind the entries, and the distance behind both
+-- an output with the trailer behind k entries: their number, and the distance
+abbrev pub with_trailer : List ℕ → ℕ → List ℕ
+with_trailer out k = sets (sets out (entry_bytes * k) (bytes4 k)) (entry_bytes * k + 4) (bytes4 (distance_of k))
+
 pub writes_trailer : (es : List Entry) (o out : List ℕ) (k : ℕ) → length es ≡ k → distance_of k ≤ length o
     → out ≡ entries_bytes es ++ drop (entry_bytes * k) o → with_trailer out k ≡ packed es ++ drop (distance_of k) o
 unfolding packed bytes4
@@ -87,3 +90,16 @@ writes_trailer es o out k e h q =
     ∙ append_assoc (entries_bytes es) (bytes4 k) (bytes4 (distance_of k) ++ drop (distance_of k) o)
     ∙ sym (append_assoc (entries_bytes es) (bytes4 k ++ bytes4 (distance_of k)) (drop (distance_of k) o))
     ∙ ap (λ (n : ℕ). (entries_bytes es ++ (bytes4 n ++ bytes4 (distance_of n))) ++ drop (distance_of k) o) (sym e)
+
+-- behind the loop over the entries all are written
+pub all_written : (es : List Entry) (o out : List ℕ) (i : ℕ) → length es ≤ i → i ≤ length es
+    → out ≡ entries_bytes (take i es) ++ drop (entry_bytes * i) o
+    → out ≡ entries_bytes es ++ drop (entry_bytes * length es) o
+all_written es o out i h l q =
+    let e : i ≡ length es = omega arith in
+    q ∙ ap (λ (n : ℕ). entries_bytes (take n es) ++ drop (entry_bytes * n) o) e
+    ∙ ap (λ (x : List Entry). entries_bytes x ++ drop (entry_bytes * length es) o) (take_all (length es) es (omega arith))
+
+-- the first of the entries that are left
+pub left_in : (es : List Entry) (i : ℕ) → i < length es → drop i es ≡ get_or es i (entry 0 0 0) ∷ drop (i + 1) es
+left_in es i h = rw (add-one i) (drop-cons es i (entry 0 0 0) h)

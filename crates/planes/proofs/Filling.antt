@@ -1,11 +1,11 @@
 -- The plane of a right from the seeds: each word is selected and closed by itself, then the words are closed over the
 -- columns from the fifth on.
 use Prim.Native.Nat.{ℕ, ◌+◌, ◌-◌, ◌*◌, ◌/◌, ◌%◌, ◌^◌, ◌≤◌, ◌<◌}
-use mathlib.Core.Path.{◌≡◌, sym, ap, subst, ◌∙◌}
+use mathlib.Core.Path.{◌≡◌, ap, ◌∙◌}
 use mathlib.Core.List.{List}
-use native.Mathlib.Decide.{ℕ_discrete}
 use native.Mathlib.Omega.{arith}
-use lib.ListN.{length, set, length-set}
+use borrow.Author.Count.{below_more}
+use lib.ListN.{length, set}
 use lib.Seq.{get_or-set_same, get_or-set_other}
 use Rattle.columns.specs.Set.{bit}
 use Rattle.table.specs.Words.{word, Above, Closed}
@@ -30,39 +30,15 @@ from_word a y before mid after select close =
       complete = λ x s l m up z e. close.complete x s l m up (omega (arith, select s m));
     }
 
--- what the loop over the words knows
-pub record FilledBelow (a i end : ℕ) (seeds before plane : List ℕ) : Type 0 where
-  pub up_to : i ≤ end
-  pub same_length : length plane ≡ length before
-  pub words : (y : ℕ) → y < i → FromWord a y (word seeds y) (word plane y)
+-- the words below i are
+abbrev pub FilledBelow : ℕ → ℕ → List ℕ → List ℕ → Type 0
+FilledBelow a i seeds plane = (y : ℕ) → y < i → FromWord a y (word seeds y) (word plane y)
 
-pub filling_begun : (a end : ℕ) (seeds plane : List ℕ) → FilledBelow a 0 end seeds plane plane
-filling_begun a end seeds plane =
-    record { up_to = omega arith; same_length = omega arith; words = λ y l. absurd (omega arith) }
-
-pub filling_more : (a i end mid new : ℕ) (seeds before plane : List ℕ) → i < end → end ≤ length before
-    → SelectedWord i a (word seeds i) mid → ClosedWord mid new → FilledBelow a i end seeds before plane
-    → FilledBelow a (i + 1) end seeds before (set plane i new)
-filling_more a i end mid new seeds before plane h l select close f =
-    let s = f.same_length in
-    record {
-      up_to = omega arith;
-      same_length = length-set plane i new ∙ s;
-      words = λ y b. at y (omega arith) (ℕ_discrete y i);
-    }
-  where
-    here : FromWord a i (word seeds i) (word (set plane i new) i)
-    here =
-        subst (λ (w : ℕ). FromWord a i (word seeds i) w)
-        (sym (get_or-set_same plane i new 0 (omega (arith, f.same_length))))
-        (from_word a i (word seeds i) mid new select close)
-
-    at : (y : ℕ) → y ≤ i → Dec (y ≡ i) → FromWord a y (word seeds y) (word (set plane i new) y)
-    at y b (yes e) =
-        subst (λ (z : ℕ). FromWord a z (word seeds z) (word (set plane i new) z)) (sym e) here
-    at y b (no n) =
-        subst (λ (w : ℕ). FromWord a y (word seeds y) w) (sym (get_or-set_other plane i y new 0 n))
-        (f.words y (omega arith))
+pub filling_more : (a i mid new : ℕ) (seeds plane : List ℕ) → i < length plane → SelectedWord i a (word seeds i) mid
+    → ClosedWord mid new → FilledBelow a i seeds plane → FilledBelow a (i + 1) seeds (set plane i new)
+filling_more a i mid new seeds plane l select close f =
+    below_more _ _ (λ y m. rw (get_or-set_other plane i y new 0 (λ u. omega arith)) (f y m))
+    (rw (get_or-set_same plane i new 0 l) (from_word a i (word seeds i) mid new select close))
 
 -- and closed over the words
 pub filled : (n a : ℕ) (seeds mid plane : List ℕ) → 5 ≤ n

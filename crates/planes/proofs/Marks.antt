@@ -72,7 +72,7 @@ marked_none plane n = record { marks = λ y. (λ b. inl b, elim [ inl b ↦ b | 
 -- one set, that is wanted for a reason
 pub marked_for : {Reason : Type 0} (x z : ℕ) (before after : List ℕ) → Reason → x ≡ z
     → Marked (λ y. y ≡ x) before after → Marked (λ y. Reason × (y ≡ z)) before after
-marked_for x z before after reason e m =
+marked_for x z before _ reason e m =
     record {
       marks = λ y. (
         λ b. elim ((m.marks y).0 b) [ inl p ↦ inl p | inr i ↦ inr (reason, i ∙ e) ],

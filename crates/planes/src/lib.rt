@@ -21,7 +21,7 @@ fn clear(k: u32) -> u32
     requires { k < 5 }
     ensures { result ≡ clear_of k }
 {
-    4294967295 / (power(power(k)) + 1)
+    u32::MAX / (power(power(k)) + 1)
 }
 
 // The word at i, with the bits of left sides that hold a taken away.
@@ -32,10 +32,7 @@ fn select(word: u32, i: u32, a: u32) -> u32
     if a < 5 {
         return word & clear(a);
     }
-    if (i >> (a - 5)) % 2 == 1 {
-        return 0;
-    }
-    word
+    if (i >> (a - 5)) % 2 == 1 { 0 } else { word }
 }
 
 // Closes a word over the five low columns: each position gets the bit of its position with column k.
@@ -43,10 +40,8 @@ fn close_word(word: u32) -> u32
     ensures { ClosedWord word result }
 {
     let mut w = word;
-    let mut k = 0;
-    while k < 5 {
-        w = w | ((w >> power(k)) & clear(k));
-        k += 1;
+    for k in 0..5 {
+        w |= (w >> power(k)) & clear(k);
     }
     w
 }
@@ -57,12 +52,8 @@ pub fn fill(words: &[u32], n: u32, a: u32, plane: &mut [u32])
         × (2 ^ (n - 5) ≤ length plane.old) }
     ensures { PlaneFrom n a words.now plane.new }
 {
-    let end = power(n - 5);
-    let mut i = 0;
-    while i < end {
-        let w = select(words[i as usize], i, a);
-        plane[i as usize] = close_word(w);
-        i += 1;
+    for i in 0..power(n - 5) {
+        plane[i as usize] = close_word(select(words[i as usize], i, a));
     }
     table::close(plane, n - 5);
 }
@@ -81,7 +72,7 @@ pub fn mark(plane: &mut [u32], x: u32)
     ensures { Marked (λ y. y ≡ x) plane.old plane.new }
 {
     let i = (x / 32) as usize;
-    plane[i] = plane[i] | power(x % 32);
+    plane[i] |= power(x % 32);
 }
 
 // Is right a minimal for the left side x, by the plane of a? It goes over the members of x, the lowest first.

@@ -1,7 +1,8 @@
 -- The present cells of a row in front of a set, from the last to the first: one cell more, and that the set stays
 -- small.
 use Prim.Native.Nat.{ℕ, suc, ◌+◌, ◌-◌, ◌*◌, ◌^◌, ◌≤◌, ◌<◌}
-use mathlib.Core.Path.{◌≡◌, sym, ap, ap₂, ◌∙◌}
+use mir.Val.{bool_byte}
+use mathlib.Core.Path.{◌≡◌, refl, sym, ap, ap₂, ◌∙◌}
 use mathlib.Core.Bool.{Bool, true, false}
 use native.Mathlib.Nat.{mul_assoc, mul-le-mul_left}
 use native.Mathlib.Omega.{arith}
@@ -12,9 +13,14 @@ use Rattle.columns.specs.Test.{pick}
 use Rattle.columns.proofs.SetBelow.{set_below_same, set_below_split, set_below_lt}
 use Rattle.presence.specs.Cells.{joined_from}
 
-pub pick_small : (b : Bool) → pick {A = ℕ} b 1 0 ≤ 1
-pick_small true = omega arith
-pick_small false = omega arith
+-- a test as a number
+pub test_small : {r : ℕ} (b : Bool) → r ≡ bool_byte b → r ≤ 1
+test_small true e = omega arith
+test_small false e = omega arith
+
+pub test_pick : (b : Bool) → bool_byte b ≡ pick b 1 0
+test_pick true = refl
+test_pick false = refl
 
 one_below : (f : ℕ → Bool) → set_below 1 f ≡ pick (f 0) 1 0
 unfolding set_below

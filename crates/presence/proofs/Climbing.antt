@@ -12,14 +12,14 @@ use Rattle.columns.specs.Bound.{column_bound}
 use Rattle.columns.specs.Set.{set_below}
 use Rattle.columns.proofs.SetBelow.{set_below_same, set_below_split, set_below_lt}
 use Rattle.model.specs.Bounds.{missing}
-use Rattle.model.specs.Bytes.{u16_at}
-use Rattle.model.specs.Catalogue.{tables, table_at, columns, parent, rows, visible, inherited}
+use Rattle.model.specs.Bytes.{u16_at, u32_at}
+use Rattle.model.specs.Catalogue.{tables, trailer, table_at, columns, parent, rows, visible, inherited}
 use Rattle.model.specs.Check.{Accepted}
 use Rattle.model.specs.Target.{present_at, view}
 use Rattle.model.proofs.Check.{accepted_parent, accepted_visible, accepted_row}
 use Rattle.model.proofs.Ancestors.{present_own, present_above, inherited_root, inherited_step}
 use Rattle.table.specs.Backed.{present_set_of}
-use Rattle.climb.proofs.Table.{cell_at, parent_at, parent_row_at, row_within_at, own_visible, rest_inherited}
+use Rattle.climb.proofs.Table.{table_read, columns_read, cell_at, parent_at, parent_row_at, row_within_at, own_visible, rest_inherited}
 use Rattle.presence.specs.Cells.{present_cell}
 
 -- row p of table t leads to a row of table `at`, with so many columns visible there, whose cells it has as that row
@@ -47,7 +47,14 @@ climbing_begun cat t n p h e l =
     }
 
 module _ (cat : List ℕ) (ok : Accepted cat) (t : ℕ) (target : t < tables cat) {p at row above set : ℕ}
-    (h : Climbing cat t p at row above set) {o c : ℕ} (e : o ≡ table_at cat at) (f : c ≡ columns cat at) where
+    (h : Climbing cat t p at row above set) {first o c : ℕ} (u : first ≡ trailer cat)
+    (v : o ≡ u32_at cat (first + 4 * at)) (w : c ≡ u16_at cat o) where
+  e : o ≡ table_at cat at
+  e = table_read cat at u v
+
+  f : c ≡ columns cat at
+  f = columns_read cat at e w
+
   -- the own columns of the table are the last of those left
   pub own_left : c ≤ above
   own_left = own_visible cat at e f above h.left
@@ -106,13 +113,13 @@ module _ (cat : List ℕ) (ok : Accepted cat) (t : ℕ) (target : t < tables cat
         ∙ ap (λ (a : ℕ). set_below (visible cat t - a) (λ i. present_at cat t (a + i) p)) z
         ∙ ap (λ (m : ℕ). set_below m (λ i. present_at cat t (0 + i) p)) all
         ∙ set_below_same (visible cat t) (λ i. present_at cat t (0 + i) p) (λ i. present_at cat t i p)
-        (λ i l. ap (λ (k : ℕ). present_at cat t k p) (first i))
+        (λ i l. ap (λ (k : ℕ). present_at cat t k p) (none_more i))
       where
         all : visible cat t - 0 ≡ visible cat t
         all = omega arith
 
-        first : (i : ℕ) → 0 + i ≡ i
-        first i = omega arith
+        none_more : (i : ℕ) → 0 + i ≡ i
+        none_more i = omega arith
 
     -- some are: the table is not the root, and the climb goes on from its parent
     not_root : (above - c ≡ 0 → ⊥) → at ≡ 0 → ⊥

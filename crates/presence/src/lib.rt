@@ -4,11 +4,10 @@
 // on the laws of `table` and `filled`. Called by `rights`, `soundness` and `coverage`.
 #![tactic(auto)]
 
-ghost use Rattle.std.specs.Prelude.{ℕ, ◌+◌, ◌*◌, ◌^◌, ◌≤◌, ◌<◌, ◌≡◌, not, eqb, length};
+ghost use Rattle.std.specs.Prelude.{ℕ, ◌+◌, ◌*◌, ◌^◌, ◌≤◌, ◌<◌, ◌≡◌, length};
 ghost use Rattle.columns.specs.Bound.{column_bound};
 ghost use Rattle.columns.specs.Set.{set_below};
-ghost use Rattle.columns.specs.Test.{pick};
-ghost use Rattle.model.specs.Bounds.{row_bound, missing};
+ghost use Rattle.model.specs.Bounds.{row_bound};
 ghost use Rattle.model.specs.Catalogue.{tables, rows as rows_of, visible};
 ghost use Rattle.model.specs.Check.{Accepted};
 ghost use Rattle.model.specs.View.{View, backed};
@@ -20,7 +19,7 @@ ghost use Rattle.planes.specs.Plane.{BackedPlane};
 ghost use Rattle.presence.specs.Cells.{present_cell};
 
 use bits::power;
-use climb::{code_at, index, short_at};
+use climb::{code_at, short_at};
 use layout::{rows, trailer};
 use model::{MISSING, ROWS};
 use planes::{PLANE, mark};
@@ -30,12 +29,10 @@ pub fn is_backed(sets: &[u32; ROWS], end: usize, x: u32) -> bool
     requires { end ≤ row_bound }
     ensures { (v : View) (n : ℕ) → PresentSets v n end sets.now → x < 2 ^ n → result ≡ backed v x }
 {
-    let mut q: usize = 0;
-    while q < end {
+    for q in 0..end {
         if x & sets[q] == x {
             return true;
         }
-        q += 1;
     }
     false
 }
@@ -46,11 +43,8 @@ pub fn note(sets: &[u32; ROWS], end: usize, b: u32, words: &mut [u32])
     ensures { SetsNoted b sets.now end words.old words.new }
 {
     let bit = power(b);
-    let mut row: usize = 0;
-    while row < end {
-        let at = sets[row] as usize;
-        words[at] = words[at] | bit;
-        row += 1;
+    for row in 0..end {
+        words[sets[row] as usize] |= bit;
     }
 }
 
@@ -59,10 +53,8 @@ fn mark_sets(sets: &[u32; ROWS], end: usize, m: u32, plane: &mut [u32])
     requires { (end ≤ row_bound) × RoomFor m plane.old × ((q : ℕ) → q < end → word sets.now q < 2 ^ m) }
     ensures { Marked (LaidSet sets.now end) plane.old plane.new }
 {
-    let mut q: usize = 0;
-    while q < end {
+    for q in 0..end {
         mark(plane, sets[q]);
-        q += 1;
     }
 }
 
@@ -77,26 +69,15 @@ fn close_rows(sets: &[u32; ROWS], end: usize, m: u32, plane: &mut [u32])
     planes::fill(&marks, m, m, plane);
 }
 
-// 1 if a cell with this code is present, and 0 if it is missing.
-fn present(code: u32) -> u32
-    ensures { result ≡ pick (not (eqb code missing)) 1 0 }
-{
-    if code == MISSING {
-        return 0;
-    }
-    1
-}
-
 // The present ones among the c cells from a byte on, and behind them the members of a set: the last cell first.
 fn join_cells(cat: &[u8], from: usize, c: usize, set: u32) -> u32
     requires { (from + 4 * c ≤ length cat.now) × (c ≤ column_bound) × (set < 2 ^ column_bound) }
     ensures { result ≡ set_below c (present_cell cat.now from) + 2 ^ c * set }
 {
     let mut joined = set;
-    let mut j = c;
-    while 0 < j {
-        j -= 1;
-        joined = 2 * joined + present(code_at(cat, from + 4 * j));
+    for j in (0..c).rev() {
+        let present = code_at(cat, from + 4 * j) != MISSING;
+        joined = 2 * joined + u32::from(present);
     }
     joined
 }
@@ -117,15 +98,15 @@ fn present_set(cat: &[u8], target: u32, n: u32, p: usize) -> u32
     let mut set: u32 = 0;
     loop {
         let o = code_at(cat, first + 4 * at) as usize;
-        let c = index(short_at(cat, o));
+        let c = short_at(cat, o) as usize;
         above -= c;
         let here = o + 6 + row * (2 + 4 * c);
         set = join_cells(cat, here + 2, c, set);
         if above == 0 {
             return set;
         }
-        row = index(short_at(cat, here));
-        at = index(short_at(cat, o + 2));
+        row = short_at(cat, here) as usize;
+        at = short_at(cat, o + 2) as usize;
     }
 }
 
@@ -138,11 +119,8 @@ pub fn lay(cat: &[u8], target: u32, n: u32, sets: &mut [u32; ROWS])
     ensures { PresentSets (view cat.now target) n (rows_of cat.now target)
         sets.new }
 {
-    let end = index(rows(cat, target));
-    let mut q: usize = 0;
-    while q < end {
+    for q in 0..rows(cat, target) as usize {
         sets[q] = present_set(cat, target, n, q);
-        q += 1;
     }
 }
 
@@ -155,6 +133,5 @@ pub fn backed_plane(cat: &[u8], target: u32, n: u32, m: u32, plane: &mut [u32])
 {
     let mut sets = [0; ROWS];
     lay(cat, target, n, &mut sets);
-    let end = index(rows(cat, target));
-    close_rows(&sets, end, m, plane);
+    close_rows(&sets, rows(cat, target) as usize, m, plane);
 }

@@ -1,15 +1,12 @@
 -- A record's rows compared by keys, and that a record is true by the keys of its target exactly if it is true.
-use Prim.Native.Nat.{ℕ, ◌+◌, ◌*◌, ◌-◌, ◌^◌, ◌≤◌, ◌<◌}
+use Prim.Native.Nat.{ℕ, ◌-◌, ◌^◌, ◌≤◌, ◌<◌}
 use mathlib.Core.Path.{◌≡◌, sym, ap, subst, ◌∙◌}
 use mathlib.Core.Logic.{◌⊎◌, inl, inr, ◌↔◌}
-use mathlib.Core.Bool.{Bool, true, not}
+use mathlib.Core.Bool.{Bool}
 use mathlib.Core.List.{List}
 use native.Mathlib.Omega.{arith}
 use lib.Dec.{T, eqb}
 use borrow.Author.Tests.{eq-eqb, ne_eqb}
-use lib.ListN.{length}
-use Rattle.columns.specs.Bound.{column_bound}
-use Rattle.columns.specs.Set.{bit}
 use Rattle.columns.specs.Test.{pick}
 use Rattle.columns.proofs.Bits.{bit_full}
 use Rattle.model.specs.Bounds.{row}
@@ -17,29 +14,16 @@ use Rattle.model.specs.Catalogue.{tables, rows, visible, inherited}
 use Rattle.model.specs.Check.{Accepted}
 use Rattle.model.specs.View.{In, AgreeOn, agree_right}
 use Rattle.model.specs.Target.{view}
-use Rattle.model.specs.Evidence.{evidence_bytes, record_at, records_from, TrueRecord}
+use Rattle.model.specs.Evidence.{TrueRecord}
 use Rattle.model.specs.declared.Evidence.{Evidence}
-use Rattle.model.proofs.Truth.{is_true, true_is, not_is}
 use Rattle.model.proofs.View.{agree_on_is}
 use Rattle.model.proofs.Check.{accepted_visible}
 use Rattle.table.proofs.Table.{member_below}
 use Rattle.leaders.specs.Keys.{key_view, key_at, Keyed}
 use Rattle.leaders.proofs.Keys.{keyed_agree_on, keyed_right}
-use Rattle.evidence.specs.Lists.{Each}
 use Rattle.evidence.specs.Sides.{SidesFit}
-use Rattle.evidence.proofs.Lists.{Testing, testing_begun, testing_more, testing_failed, testing_done}
-use Rattle.evidence.proofs.Lists.{records_none, records_next}
 use Rattle.evidence.proofs.Sides.{sides_own}
-use Rattle.records.specs.True.{AgreeAt, TrueBy, AllTrueBy, AllTrue}
-
--- a column that is not in the set
-pub not_asked : (keys : List ℕ) (set p q k : ℕ) → bit set k ≡ 0 → AgreeAt keys set p q k
-not_asked keys set p q k e i = absurd (omega (arith, e, i))
-
--- a column that is in it
-pub asked : (keys : List ℕ) (set p q k : ℕ) → (bit set k ≡ 0 → ⊥)
-    → (eqb (key_at keys k p) (key_at keys k q) ≡ true) ↔ AgreeAt keys set p q k
-asked keys set p q k n = (λ e i. true_is e, λ h. is_true (h (omega (arith, n))))
+use Rattle.records.specs.True.{TrueBy, AllTrueBy, AllTrue}
 
 -- the right side by keys: the row, or a column
 pub by_row : (keys : List ℕ) (right p q : ℕ) → right ≡ row → eqb p q ≡ agree_right (key_view keys 0 0) right p q
@@ -50,15 +34,6 @@ pub by_column : (keys : List ℕ) (right p q : ℕ) → (right ≡ row → ⊥)
     → eqb (key_at keys right p) (key_at keys right q) ≡ agree_right (key_view keys 0 0) right p q
 by_column keys right p q n =
     ap (λ (b : Bool). pick b (eqb p q) (eqb (key_at keys right p) (key_at keys right q))) (sym (ne_eqb right row n))
-
--- a right side that a target allows is the row or a column below the bound
-pub column_small : {n low set right : ℕ} → n ≤ column_bound → SidesFit n low set right → (right ≡ row → ⊥)
-    → right < column_bound
-column_small {n} {low} {right = right} few h column = at h.1
-  where
-    at : (right ≡ row) ⊎ ((low ≤ right) × (right < n)) → right < column_bound
-    at (inl e) = absurd (column e)
-    at (inr b) = omega (arith, b.1)
 
 -- the keys of all members of a table are laid
 abbrev pub AllKeyed : List ℕ → ℕ → List ℕ → Type 0
@@ -150,44 +125,3 @@ module _ (cat : List ℕ) (ok : Accepted cat) (keys : List ℕ) where
           (ap (inherited cat) is ∙ sym el)
           (subst (λ (m : ℕ). TrueBy keys (visible cat e.target) (inherited cat e.target) m e ↔ TrueRecord cat e)
           (ap (rows cat) is ∙ sym ee) all))
-
--- the last comparison of a record
-pub true_so_far : (keys : List ℕ) (n low end : ℕ) (e : Evidence) {r : Bool} → SidesFit n low e.set e.right
-    → e.first < end → e.second < end → AgreeOn (key_view keys n 0) e.set e.first e.second
-    → r ≡ agree_right (key_view keys 0 0) e.right e.first e.second
-    → (not r ≡ true) ↔ TrueBy keys n low end e
-true_so_far keys n low end e {r} sides first second agree is = (
-  λ s. record {
-    sides = sides;
-    first = first;
-    second = second;
-    agree = agree;
-    disagree = λ t. (not_is r).0 (true_is s) (subst T (sym is) t);
-  },
-  λ h. is_true ((not_is r).1 (λ t. h.disagree (subst T is t))),
-)
-
--- the loop over the records: where it stands, and that those passed are such
-pub record Going (P : Evidence → Type 0) (bytes : List ℕ) (count at left : ℕ) : Type 0 where
-  pub inside : at + evidence_bytes * left ≤ length bytes
-  pub testing : Testing P (λ e. Unit {0}) (records_from bytes count 0) (records_from bytes left at)
-
-module _ {P : Evidence → Type 0} {bytes : List ℕ} {count : ℕ} where
-  pub going_begun : evidence_bytes * count ≤ length bytes → Going P bytes count 0 count
-  going_begun h = record { inside = omega arith; testing = testing_begun (λ e m. tt) }
-
-  module _ {at left : ℕ} (l : 0 < left) {e : Evidence} (is : e ≡ record_at bytes at)
-      (h : Going P bytes count at left) where
-    pub going_more : P e → Going P bytes count (at + evidence_bytes) (left - 1)
-    going_more p =
-        record {
-          inside = omega (arith, h.inside);
-          testing = testing_more (records_next bytes left at l) (subst P is p) h.testing;
-        }
-
-    pub going_failed : (P e → ⊥) → Each P (records_from bytes count 0) → ⊥
-    going_failed n =
-        testing_failed (records_next bytes left at l) (λ p. n (subst P (sym is) p)) h.testing
-
-  pub going_done : {at left : ℕ} → left ≡ 0 → Going P bytes count at left → Each P (records_from bytes count 0)
-  going_done {at} {left} e h = testing_done (records_none bytes left at e) h.testing

@@ -4,33 +4,30 @@
 // how many rows and columns there are. Called by `verify`.
 #![tactic(auto)]
 
-ghost use Rattle.std.specs.Prelude.{◌*◌, ◌≤◌, ◌<◌, ◌≡◌, true, ◌↔◌, length};
+ghost use Rattle.std.specs.Prelude.{◌≤◌, ◌<◌, ◌≡◌, true, ◌↔◌};
 ghost use Rattle.columns.specs.Bound.{column_bound};
 ghost use Rattle.model.specs.Bounds.{row, row_bound};
 ghost use Rattle.model.specs.Catalogue.{tables};
 ghost use Rattle.model.specs.Check.{Accepted};
-ghost use Rattle.model.specs.Evidence.{evidence_bytes, records_from};
 ghost use Rattle.model.specs.View.{AgreeOn, agree_right};
 ghost use Rattle.leaders.specs.Keys.{key_view};
 ghost use Rattle.evidence.specs.Lists.{Each};
+ghost use Rattle.evidence.specs.Run.{records_of};
 ghost use Rattle.records.specs.True.{AgreeAt, TrueBy, TrueByFor, AllTrueBy, AllTrue};
 
-use evidence::{record_at, sides_fit};
+use evidence::{EvidenceRecords, sides_fit};
 use keys::lay_all;
 use layout::{inherited, rows, visible};
 use leaders::{ROWS, SIZE};
-use model::{EVIDENCE_BYTES, Evidence, ROW};
+use model::{Evidence, ROW};
 
 // Do rows p and q agree on column k, if it is in the set?
 fn agree_at(keys: &[u16; SIZE], set: u32, k: u32, p: usize, q: usize) -> bool
     requires { (k < column_bound) × (p < row_bound) × (q < row_bound) }
     ensures { (result ≡ true) ↔ AgreeAt keys.now set p q k }
 {
-    if (set >> k) % 2 == 0 {
-        return true;
-    }
     let at = k as usize * ROWS;
-    keys[at + p] == keys[at + q]
+    (set >> k) % 2 == 0 || keys[at + p] == keys[at + q]
 }
 
 // Do they agree on a set of n columns?
@@ -38,14 +35,7 @@ fn agree_on(keys: &[u16; SIZE], n: u32, set: u32, p: usize, q: usize) -> bool
     requires { (n ≤ column_bound) × (p < row_bound) × (q < row_bound) }
     ensures { (result ≡ true) ↔ AgreeOn (key_view keys.now n 0) set p q }
 {
-    let mut k = 0;
-    while k < n {
-        if !agree_at(keys, set, k, p, q) {
-            return false;
-        }
-        k += 1;
-    }
-    true
+    (0..n).all(|k| agree_at(keys, set, k, p, q))
 }
 
 // Do they agree on a right side?
@@ -66,23 +56,15 @@ fn is_true(keys: &[u16; SIZE], n: u32, low: u32, end: usize, e: Evidence) -> boo
     requires { (n ≤ column_bound) × (end ≤ row_bound) }
     ensures { (result ≡ true) ↔ TrueBy keys.now n low end e }
 {
-    let set = e.set as u32;
-    let right = e.right as u32;
-    let p = e.first as usize;
-    let q = e.second as usize;
-    if !sides_fit(n, low, set, right) {
-        return false;
-    }
-    if end <= p {
-        return false;
-    }
-    if end <= q {
-        return false;
-    }
-    if !agree_on(keys, n, set, p, q) {
-        return false;
-    }
-    !agree_right(keys, right, p, q)
+    let set = u32::from(e.set);
+    let right = u32::from(e.right);
+    let p = usize::from(e.first);
+    let q = usize::from(e.second);
+    sides_fit(n, low, set, right)
+        && p < end
+        && q < end
+        && agree_on(keys, n, set, p, q)
+        && !agree_right(keys, right, p, q)
 }
 
 // Is a record true if it is one of the target?
@@ -90,10 +72,7 @@ fn is_true_for(keys: &[u16; SIZE], n: u32, low: u32, end: usize, target: u32, e:
     requires { (n ≤ column_bound) × (end ≤ row_bound) }
     ensures { (result ≡ true) ↔ TrueByFor keys.now n low end target e }
 {
-    if e.target as u32 != target {
-        return true;
-    }
-    is_true(keys, n, low, end, e)
+    u32::from(e.target) != target || is_true(keys, n, low, end, e)
 }
 
 // Are all records of the target true?
@@ -103,55 +82,31 @@ fn all_true(
     low: u32,
     end: usize,
     target: u32,
-    bytes: &[u8],
-    count: usize,
+    records: EvidenceRecords,
 ) -> bool
-    requires { (n ≤ column_bound) × (end ≤ row_bound) × (evidence_bytes * count ≤ length bytes.now) }
-    ensures { (result ≡ true)
-        ↔ AllTrueBy keys.now n low end target (records_from bytes.now count 0) }
+    requires { (n ≤ column_bound) × (end ≤ row_bound) }
+    ensures { (result ≡ true) ↔ AllTrueBy keys.now n low end target (records_of records.entry) }
 {
-    let mut at: usize = 0;
-    let mut rest = count;
-    while 0 < rest {
-        let e = record_at(bytes, at);
-        if !is_true_for(keys, n, low, end, target, e) {
-            return false;
-        }
-        at += EVIDENCE_BYTES;
-        rest -= 1;
-    }
-    true
+    (0..records.count).all(|i| is_true_for(keys, n, low, end, target, records.record(i)))
 }
 
 // 8: is each record's target below the number of tables?
-pub fn all_known(bytes: &[u8], count: usize, tables: u32) -> bool
-    requires { evidence_bytes * count ≤ length bytes.now }
-    ensures { (result ≡ true) ↔ Each (λ e. e.target < tables) (records_from bytes.now count 0) }
+pub fn all_known(records: EvidenceRecords, tables: u32) -> bool
+    ensures { (result ≡ true) ↔ Each (λ e. e.target < tables) (records_of records.entry) }
 {
-    let mut at: usize = 0;
-    let mut rest = count;
-    while 0 < rest {
-        let e = record_at(bytes, at);
-        if tables <= e.target as u32 {
-            return false;
-        }
-        at += EVIDENCE_BYTES;
-        rest -= 1;
-    }
-    true
+    (0..records.count).all(|i| u32::from(records.record(i).target) < tables)
 }
 
 // Are the records of a target true?
-pub fn target_true(cat: &[u8], target: u32, bytes: &[u8], count: usize) -> bool
+pub fn target_true(cat: &[u8], target: u32, records: EvidenceRecords) -> bool
     requires accepted { Accepted cat.now }
     requires target_bound { target < tables cat.now }
-    requires count_in_bounds { evidence_bytes * count ≤ length bytes.now }
-    ensures { (result ≡ true) ↔ AllTrue cat.now target (records_from bytes.now count 0) }
+    ensures { (result ≡ true) ↔ AllTrue cat.now target (records_of records.entry) }
 {
     let n = visible(cat, target);
     let mut all = [0u16; SIZE];
     lay_all(cat, target, n, &mut all);
     let end = rows(cat, target) as usize;
     let low = inherited(cat, target);
-    all_true(&all, n, low, end, target, bytes, count)
+    all_true(&all, n, low, end, target, records)
 }

@@ -1,21 +1,33 @@
 -- One reader after another, as the code goes: what the first gave is tested for 0. Forwards, what is known where the
 -- last one has read something; backwards, for a return.
-use Prim.Native.Nat.{ℕ, ◌<◌}
+use Prim.Native.Nat.{ℕ, ◌≤◌, ◌<◌}
 use mathlib.Core.Path.{◌≡◌, refl, sym, ap, ◌∙◌}
 use mathlib.Core.Bool.{Bool, true, false}
 use native.Mathlib.Decide.{ℕ_discrete, dec_lt}
 use native.Mathlib.Omega.{arith}
+use Rattle.std.specs.Prelude.{Option, None, Some}
+use Rattle.std.specs.Option.{unwrap_or, IfSome}
 use Rattle.columns.specs.Test.{pick, if_eq, if_lt}
 use Rattle.columns.proofs.Test.{if_eq_yes, if_eq_no, if_lt_yes, if_lt_no}
 use Rattle.model.specs.Form.{next}
 use Rattle.readers.proofs.Next.{is_next_none, is_next_some}
 
--- the first gave r
-pub none_read : {r a : ℕ} (f : ℕ → ℕ) → r ≡ a → r ≡ 0 → 0 ≡ next a f
-none_read f e z = is_next_none f (sym e ∙ z)
+-- the first gave nothing, and so there is nothing
+pub none_read : {a : ℕ} (f : ℕ → ℕ) → 0 ≡ a → 0 ≡ next a f
+none_read f e = is_next_none f (sym e)
 
-pub some_read : {r a x : ℕ} (f : ℕ → ℕ) → r ≡ a → (r ≡ 0 → ⊥) → x ≡ f r → x ≡ next a f
-some_read f e n g = is_next_some f (λ z. n (e ∙ z)) (g ∙ ap f e)
+-- it gave r, behind p
+pub some_read : {r a x p : ℕ} (f : ℕ → ℕ) → r ≡ a → p < r → x ≡ f r → x ≡ next a f
+some_read f e l g = is_next_some f (λ z. omega arith) (g ∙ ap f e)
+
+-- nothing was read, and that is what is given
+pub none_given : {o : Option ℕ} {x : ℕ} → o ≡ None → 0 ≡ x → unwrap_or o 0 ≡ x
+none_given e h = ap (λ (o : Option ℕ). unwrap_or o 0) e ∙ h
+
+-- what was read lies behind what was before, and so behind what was before that
+pub further : (o : Option ℕ) {p q : ℕ} → p ≤ q → IfSome o (λ x. q < x) → IfSome o (λ x. p < x)
+further None l h = h
+further (Some x) l h = omega arith
 
 -- a reader went on at a position that another gave
 pub read_at : (f : ℕ → ℕ) {r q p : ℕ} → r ≡ f q → q ≡ p → r ≡ f p

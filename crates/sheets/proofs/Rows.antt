@@ -7,7 +7,7 @@ use native.Mathlib.Numerals.{add-one}
 use native.Mathlib.Decide.{ℕ_discrete}
 use native.Mathlib.Omega.{arith}
 use lib.ListN.{length, get_or, take, drop, drop_of_length-le}
-use lib.Seq.{sets, drop-cons, get_or-take, length-take-le}
+use lib.Seq.{sets, drop-cons}
 use Rattle.columns.specs.Bound.{column_bound}
 use Rattle.columns.specs.Test.{if_eq}
 use Rattle.columns.proofs.Test.{if_eq_yes, if_eq_no}
@@ -18,8 +18,7 @@ use Rattle.model.specs.Forest.{Cells, codes_from}
 use Rattle.model.specs.Form.{number_in, capped, cells_in}
 use Rattle.model.specs.Convert.{Tag, tags_in, rows_from}
 use Rattle.attributes.specs.Tags.{Codes}
-use Rattle.tags.specs.Next.{AtTag, NextTag}
-use Rattle.tags.proofs.Tags.{no_tags}
+use Rattle.tags.specs.Next.{NextTag}
 use Rattle.attributes.proofs.Digits.{capped_small, capped_is}
 use Rattle.standing.proofs.Sound.{codes_many}
 use Rattle.encoding.proofs.Sizes.{bytes2_length, bytes4_length, codes_length, row_length}
@@ -51,45 +50,33 @@ no_codes : (xs : List ℕ) (k : ℕ) → length xs ≤ k → codes_of (drop k xs
 unfolding codes_of
 no_codes xs k h = ap codes_of (drop_of_length-le xs h)
 
--- of n codes k are written
-pub record Coding (codes : List ℕ) (n : ℕ) (before : List ℕ) (at : ℕ) (there : List ℕ) (k : ℕ) : Type 0 where
-  pub low : k ≤ n
-  pub writing : Writing before at (codes_of (take n codes)) there (at + 4 * k) (codes_of (drop k (take n codes)))
+-- the codes before k are written
+pub record Coding (codes before : List ℕ) (at : ℕ) (there : List ℕ) (k : ℕ) : Type 0 where
+  pub writing : Writing before at (codes_of codes) there (at + 4 * k) (codes_of (drop k codes))
 
-pub coding_begun : (codes : List ℕ) (n : ℕ) (before : List ℕ) (at : ℕ) → Coding codes n before at before 0
-coding_begun codes n before at = record { low = omega arith; writing = rw add-zero (writing_begun before at refl) }
+pub coding_begun : (codes before : List ℕ) (at : ℕ) → Coding codes before at before 0
+coding_begun codes before at = record { writing = rw add-zero (writing_begun before at refl) }
 
-module _ (codes : List ℕ) (n : ℕ) (enough : n ≤ length codes) (before : List ℕ) (at : ℕ) where
-  taken : length (take n codes) ≡ n
-  taken = length-take-le n codes enough
+module _ (codes before : List ℕ) (at : ℕ) {there : List ℕ} {k : ℕ} (c : Coding codes before at there k) where
+  pub coding_room : k < length codes → at + 4 * length codes ≤ length before → at + 4 * k + 4 ≤ length there
+  coding_room more h =
+      omega (
+        arith,
+        writing_room c.writing (bytes4 (get_or codes k 0)) (codes_of (drop (k + 1) codes))
+            (codes_first codes k more) (omega (arith, codes_length codes)),
+        bytes4_length (get_or codes k 0),
+      )
 
-  ahead_first : (k : ℕ) → k < n
-      → codes_of (drop k (take n codes)) ≡ bytes4 (get_or codes k 0) ++ codes_of (drop (k + 1) (take n codes))
-  ahead_first k h =
-      codes_first (take n codes) k (omega (arith, taken))
-      ∙ ap (λ (x : ℕ). bytes4 x ++ codes_of (drop (k + 1) (take n codes))) (get_or-take n codes k 0 h)
+  pub coding_more : k < length codes → {after : List ℕ} → after ≡ sets there (at + 4 * k) (bytes4 (get_or codes k 0))
+      → Coding codes before at after (k + 1)
+  coding_more more e =
+      record {
+        writing = writing_more c.writing (bytes4 (get_or codes k 0)) _ (codes_first codes k more)
+            (record { written = e; end = omega (arith, bytes4_length (get_or codes k 0)) });
+      }
 
-  module _ {there : List ℕ} {k : ℕ} (c : Coding codes n before at there k) where
-    pub coding_room : k < n → at + 4 * n ≤ length before → at + 4 * k + 4 ≤ length there
-    coding_room more h =
-        omega (
-          arith,
-          writing_room c.writing (bytes4 (get_or codes k 0)) (codes_of (drop (k + 1) (take n codes)))
-              (ahead_first k more) (omega (arith, codes_length (take n codes), taken)),
-          bytes4_length (get_or codes k 0),
-        )
-
-    pub coding_more : k < n → {after : List ℕ} → after ≡ sets there (at + 4 * k) (bytes4 (get_or codes k 0))
-        → Coding codes n before at after (k + 1)
-    coding_more more e =
-        record {
-          low = omega arith;
-          writing = writing_more c.writing (bytes4 (get_or codes k 0)) _ (ahead_first k more)
-              (record { written = e; end = omega (arith, bytes4_length (get_or codes k 0)) });
-        }
-
-    pub coding_done : n ≤ k → there ≡ sets before at (codes_of (take n codes))
-    coding_done h = (writing_done c.writing (no_codes (take n codes) k (omega (arith, taken)))).written
+  pub coding_done : length codes ≤ k → there ≡ sets before at (codes_of codes)
+  coding_done h = (writing_done c.writing (no_codes codes k h)).written
 
 -- a row is its parent row and its codes
 pub row_put : (l m n : List ℕ) (at up : ℕ) (codes : List ℕ) (c : ℕ) (cells : Cells) → Codes cells codes
@@ -191,50 +178,41 @@ pub record Rowing (s : List ℕ) (c above table : ℕ) (before : List ℕ) (at p
   pub writing : Writing before at (rows_bytes (rows_from c above table 0 (tags_in s))) there to
       (rows_bytes (rows_from c above table seen (tags_in (drop p s))))
   pub few : seen ≤ p
-  pub found : AtTag s p
 
 module _ (s : List ℕ) (c above table : ℕ) (before : List ℕ) (at : ℕ) where
-  pub rowing_begun : {p : ℕ} → NextTag s 0 p → Rowing s c above table before at p 0 before at
-  rowing_begun next =
-      record {
-        writing = writing_begun before at
-            (ap (λ (ts : List Tag). rows_bytes (rows_from c above table 0 ts)) (sym next.same));
-        few = omega arith;
-        found = next.found;
-      }
+  pub rowing_begun : Rowing s c above table before at 0 0 before at
+  rowing_begun = record { writing = writing_begun before at refl; few = omega arith }
 
   module _ {p seen : ℕ} {there : List ℕ} {to : ℕ} (r : Rowing s c above table before at p seen there to) where
-    pub rowing_done : length s ≤ p → Put before at (rows_bytes (rows_from c above table 0 (tags_in s))) there to
+    pub rowing_done : tags_in (drop p s) ≡ []
+        → Put before at (rows_bytes (rows_from c above table 0 (tags_in s))) there to
     unfolding rows_from rows_bytes
-    rowing_done h =
-        writing_done r.writing (ap (λ (ts : List Tag). rows_bytes (rows_from c above table seen ts)) (no_tags s p h))
+    rowing_done e = writing_done r.writing (ap (λ (ts : List Tag). rows_bytes (rows_from c above table seen ts)) e)
 
-    module _ (table-low : table < missing) (above_low : above < missing) (inside : p < length s) {up m : ℕ}
-        (stands : up ≡ up_of table seen) (read : m ≡ capped (number_in (drop (p + 2) s))) where
+    module _ (table-low : table < missing) (above_low : above < missing) {q : ℕ} (next : NextTag s p q) {up m : ℕ}
+        (stands : up ≡ up_of table seen) (read : m ≡ capped (number_in (drop q s))) where
       ahead_of : rows_bytes (rows_from c above table seen (tags_in (drop p s)))
-          ≡ bytes_for c table up m (cells_in (drop (p + 2) s))
-          ++ rows_bytes (rows_from c above table (seen_after above table m seen) (tags_in (drop (p + 2) s)))
+          ≡ bytes_for c table up m (cells_in (drop q s))
+          ++ rows_bytes (rows_from c above table (seen_after above table m seen) (tags_in (drop q s)))
       ahead_of =
-          ap (λ (ts : List Tag). rows_bytes (rows_from c above table seen ts)) (r.found.tagged inside)
-          ∙ rows_read c above table table-low above_low seen (number_in (drop (p + 2) s)) up m
-          (cells_in (drop (p + 2) s)) (tags_in (drop (p + 2) s)) stands read
+          ap (λ (ts : List Tag). rows_bytes (rows_from c above table seen ts)) next.same
+          ∙ rows_read c above table table-low above_low seen (number_in (drop q s)) up m
+          (cells_in (drop q s)) (tags_in (drop q s)) stands read
 
       pub rowing_room : at + length (rows_bytes (rows_from c above table 0 (tags_in s))) ≤ length before
-          → to + length (bytes_for c table up m (cells_in (drop (p + 2) s))) ≤ length there
+          → to + length (bytes_for c table up m (cells_in (drop q s))) ≤ length there
       rowing_room =
-          writing_room r.writing (bytes_for c table up m (cells_in (drop (p + 2) s)))
-          (rows_bytes (rows_from c above table (seen_after above table m seen) (tags_in (drop (p + 2) s)))) ahead_of
+          writing_room r.writing (bytes_for c table up m (cells_in (drop q s)))
+          (rows_bytes (rows_from c above table (seen_after above table m seen) (tags_in (drop q s)))) ahead_of
 
-      pub rowing_more : {after : List ℕ} {behind now q : ℕ}
-          → Put there to (bytes_for c table up m (cells_in (drop (p + 2) s))) after behind
-          → now ≡ seen_after above table m seen → NextTag s (p + 2) q
-          → Rowing s c above table before at q now after behind
-      rowing_more {after} {behind} {now} {q} put e next =
+      pub rowing_more : {after : List ℕ} {behind now : ℕ}
+          → Put there to (bytes_for c table up m (cells_in (drop q s))) after behind
+          → now ≡ seen_after above table m seen → Rowing s c above table before at q now after behind
+      rowing_more {after} {behind} {now} put e =
           record {
             writing = writing_more r.writing _ _
                 (ahead_of
-                ∙ ap₂ (λ (k : ℕ) (ts : List Tag). bytes_for c table up m (cells_in (drop (p + 2) s))
-                ++ rows_bytes (rows_from c above table k ts)) (sym e) next.same) put;
-            few = let low = next.low in let few = r.few in omega (arith, seen_next above table m seen);
-            found = next.found;
+                ∙ ap (λ (k : ℕ). bytes_for c table up m (cells_in (drop q s))
+                ++ rows_bytes (rows_from c above table k (tags_in (drop q s)))) (sym e)) put;
+            few = omega (arith, next.behind, r.few, seen_next above table m seen);
           }

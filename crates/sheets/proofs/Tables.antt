@@ -86,13 +86,12 @@ none_left n k h = omega arith
 
 -- Of all tables those before `table` are written.
 pub record Tabling (shape : List ℕ) (ts : List Tag) (before there : List ℕ) (table at : ℕ) : Type 0 where
-  pub low : table ≤ tables shape
   pub writing : Writing before 0 (tables_bytes (contents_from shape ts (tables shape) 0)) there at
       (tables_bytes (contents_from shape ts (tables shape - table) table))
 
 module _ (shape : List ℕ) (ts : List Tag) (before : List ℕ) where
   pub tabling_begun : Tabling shape ts before before 0 0
-  tabling_begun = record { low = omega arith; writing = rw sub-zero (writing_begun before 0 refl) }
+  tabling_begun = record { writing = rw sub-zero (writing_begun before 0 refl) }
 
   module _ {there : List ℕ} {table at : ℕ} (w : Tabling shape ts before there table at) where
     pub tabling_done : tables shape ≤ table
@@ -123,14 +122,12 @@ module _ (shape : List ℕ) (ts : List Tag) (before : List ℕ) where
           → Tabling shape ts before after (table + 1) behind
       tabling_more p =
           record {
-            low = omega arith;
             writing = writing_more w.writing (table_bytes (table_from shape ts table))
                 (tables_bytes (contents_from shape ts (tables shape - (table + 1)) (table + 1))) tables_first p;
           }
 
 -- Of the starts of all tables those before `table` are written, which starts at `start`.
 pub record Starting (shape counts before : List ℕ) (at : ℕ) (there : List ℕ) (table start : ℕ) : Type 0 where
-  pub low : table ≤ tables shape
   pub small : start ≤ table * table_room
   pub writing : Writing before at (codes_of (starts_in shape counts (tables shape) 0 0)) there (at + 4 * table)
       (codes_of (starts_in shape counts (tables shape - table) table start))
@@ -150,7 +147,6 @@ module _ (shape counts before : List ℕ) (at : ℕ) where
   pub starting_begun : Starting shape counts before at before 0 0
   starting_begun =
       record {
-        low = omega arith;
         small = omega arith;
         writing = rw (add-zero, sub-zero) (writing_begun before at refl);
       }
@@ -189,7 +185,6 @@ module _ (shape counts before : List ℕ) (at : ℕ) where
           → Starting shape counts before at after (table + 1) (start + size)
       starting_more {after} {size} e f l =
           record {
-            low = omega arith;
             small = let s = w.small in omega arith;
             writing = writing_more w.writing (bytes4 start)
                 (codes_of (starts_in shape counts (tables shape - (table + 1)) (table + 1) (start + size)))
@@ -201,13 +196,12 @@ module _ (shape counts before : List ℕ) (at : ℕ) where
 
 -- Of the sizes of all tables those before `table` are added up.
 pub record Sizing (shape counts : List ℕ) (table sum : ℕ) : Type 0 where
-  pub low : table ≤ tables shape
   pub small : sum ≤ table * table_room
   pub same : sum + sizes_in shape counts (tables shape - table) table ≡ sizes_in shape counts (tables shape) 0
 
 module _ (shape counts : List ℕ) where
   pub sizing_begun : Sizing shape counts 0 0
-  sizing_begun = record { low = omega arith; small = omega arith; same = rw sub-zero (omega arith) }
+  sizing_begun = record { small = omega arith; same = rw sub-zero (omega arith) }
 
   module _ {table sum : ℕ} (w : Sizing shape counts table sum) where
     pub sizing_more : table < tables shape → {size : ℕ} → size ≡ size_in shape counts table → size ≤ table_room
@@ -220,7 +214,7 @@ module _ (shape counts : List ℕ) where
         ∙ ap (λ (t : ℕ). size_in shape counts table + sizes_in shape counts (tables shape - (table + 1)) t)
         (sym (add-one table)) in
         let s = w.small in let same = w.same in
-        record { low = omega arith; small = omega arith; same = omega arith }
+        record { small = omega arith; same = omega arith }
 
     pub sizing_done : tables shape ≤ table → sum + 4 * tables shape + 6 ≡ file_size shape counts
     unfolding sizes_in file_size

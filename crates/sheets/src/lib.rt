@@ -25,15 +25,13 @@ use model::{NO_PARENT, TABLES};
 // The number that stands for 'no row' above the root.
 const NO_ROW: usize = NO_PARENT as usize;
 
-// Writes n codes.
-fn put_codes(out: &mut [u8], at: usize, codes: &[u32], n: usize)
-    requires { (n ≤ length codes.now) × (at + 4 * n ≤ length out.old) }
-    ensures { out.new ≡ sets out.old at (codes_of (take n codes.now)) }
+// Writes codes.
+fn put_codes(out: &mut [u8], at: usize, codes: &[u32])
+    requires { at + 4 * length codes.now ≤ length out.old }
+    ensures { out.new ≡ sets out.old at (codes_of codes.now) }
 {
-    let mut k = 0;
-    while k < n {
+    for k in 0..codes.len() {
         put_u32(out, at + 4 * k, codes[k] as usize);
-        k += 1;
     }
 }
 
@@ -46,7 +44,7 @@ fn put_row(out: &mut [u8], at: usize, up: usize, s: &[u8], p: usize, n: usize)
     let mut codes = [0u32; COLUMNS];
     attributes::read_codes(s, p, &mut codes);
     put_u16(out, at, up);
-    put_codes(out, at + 2, &codes, n);
+    put_codes(out, at + 2, &codes[..n]);
 }
 
 // Writes the row of a tag of table n, whose attributes stand from p on, where that is the table: where the next goes.
@@ -79,7 +77,7 @@ fn up_of(table: u32, seen: usize) -> usize
     if table == 0 {
         return NO_ROW;
     }
-    layout::back(seen, 1)
+    seen.saturating_sub(1)
 }
 
 // How many rows of the parent table stand before what follows a tag of table n.
@@ -105,12 +103,12 @@ fn put_rows(out: &mut [u8], at: usize, s: &[u8], table: u32, above: u32, columns
 {
     let mut to = at;
     let mut seen: usize = 0;
-    let mut p = tags::next_tag(s, 0);
-    while p < s.len() {
-        let n = attributes::number_at(s, p + 2);
-        to = put_tag(out, to, up_of(table, seen), s, p + 2, n, table, columns);
+    let mut p = 0;
+    while let Some(number) = tags::next_tag(s, p) {
+        let n = attributes::number_at(s, number);
+        to = put_tag(out, to, up_of(table, seen), s, number, n, table, columns);
         seen = seen_after(above, table, n, seen);
-        p = tags::next_tag(s, p + 2);
+        p = number;
     }
     to
 }
@@ -148,12 +146,9 @@ fn put_tables(out: &mut [u8], shape: &[u8], s: &[u8], counts: &[usize; TABLES]) 
         (tables_bytes (contents_from shape.now (tags_in s.now) (tables_of shape.now) 0))
         out.new result }
 {
-    let n = layout::tables(shape) as u32;
-    let mut table: u32 = 0;
     let mut at: usize = 0;
-    while table < n {
+    for table in 0..layout::tables(shape) as u32 {
         at = put_table(out, at, shape, s, table, counts[table as usize]);
-        table += 1;
     }
     at
 }
@@ -175,13 +170,10 @@ fn put_starts(out: &mut [u8], at: usize, shape: &[u8], counts: &[usize; TABLES])
     ensures { out.new ≡ sets out.old at
         (codes_of (starts_in shape.now counts.now (tables_of shape.now) 0 0)) }
 {
-    let n = layout::tables(shape) as u32;
-    let mut table: u32 = 0;
     let mut start: usize = 0;
-    while table < n {
+    for table in 0..layout::tables(shape) as u32 {
         put_u32(out, at + 4 * table as usize, start);
         start += size_of(shape, counts, table);
-        table += 1;
     }
 }
 
@@ -205,11 +197,9 @@ pub fn size(shape: &[u8], counts: &[usize; TABLES]) -> usize
     ensures { result ≡ file_size shape.now counts.now }
 {
     let n = layout::tables(shape) as u32;
-    let mut table: u32 = 0;
     let mut sum: usize = 0;
-    while table < n {
+    for table in 0..n {
         sum += size_of(shape, counts, table);
-        table += 1;
     }
     sum + 4 * n as usize + 6
 }

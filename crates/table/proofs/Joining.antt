@@ -7,59 +7,17 @@ use native.Mathlib.Decide.{dec_lt}
 use native.Mathlib.Nat.{two-pow-succ}
 use native.Mathlib.Omega.{arith}
 use lib.Bits.{bit_or, or_zero_r, or_self, or_lt, or_block, or_shifted_r}
-use lib.ListN.{length, set, length-set}
+use lib.ListN.{length}
 use lib.Pow.{pow-lt}
 use lib.Seq.{ext_get_or}
-use Rattle.table.specs.Words.{word, with_further, with_column, with_columns, BlockJoined, ColumnJoined}
+use Rattle.table.specs.Words.{word, with_column, with_columns, BlockJoined, ColumnJoined}
 use Rattle.table.specs.Words.{ColumnsJoined}
 use Rattle.table.proofs.Bits.{or_ge_left, with_below}
 use Rattle.table.proofs.Closing.{ClosedBelow, close_begun, close_more}
 use Rattle.filled.specs.Filled.{Filled}
-use Rattle.filled.proofs.Filled.{filled_none, filled_more, filled_moved, filled_then}
+use Rattle.filled.proofs.Filled.{filled_then}
 use Rattle.table.proofs.Replacing.{filled_some, or_in_block}
 use Rattle.table.proofs.Replacing.{Replacing, replacing_more}
-
--- what the loop over a block knows: its first i words are joined
-pub record InBlock (start column i : ℕ) (before after : List ℕ) : Type 0 where
-  pub up_to : i ≤ column
-  pub enough : start + column + column ≤ length before
-  pub same_length : length after ≡ length before
-  pub words : Filled start (start + i) (with_further column (word before)) before after
-
-pub block_begun : (start column : ℕ) (ws : List ℕ) → start + column + column ≤ length ws → InBlock start column 0 ws ws
-block_begun start column ws l =
-    let f = with_further column (word ws) in
-    let e : start ≡ start + 0 = omega arith in
-    record {
-      up_to = omega arith;
-      enough = l;
-      same_length = refl;
-      words = filled_moved e filled_none;
-    }
-
-pub block_more : (start column i x : ℕ) (before after : List ℕ) → x ≡ start + i → i < column
-    → InBlock start column i before after
-    → InBlock start column (i + 1) before (set after x (with_further column (word after) x))
-block_more start column i x before after e h b =
-    let r = b.words in
-    let l = b.enough in
-    record {
-      up_to = omega arith;
-      enough = l;
-      same_length = length-set after x (with_further column (word after) x) ∙ b.same_length;
-      words =
-          filled_moved (omega arith)
-          (filled_more r e (omega arith) (omega arith)
-          (ap₂ bit_or (r.past x (omega arith)) (r.past (x + column) (omega arith))
-          ∙ ap (with_further column (word before)) e));
-    }
-
-pub block_done : (start column i : ℕ) (before after : List ℕ) → column ≤ i → InBlock start column i before after
-    → BlockJoined start column before after
-block_done start column i before after h b =
-    let l = b.up_to in
-    let e : i ≡ column = omega arith in
-    filled_moved (ap (λ (z : ℕ). start + z) e) b.words
 
 -- column k is 2 ^ k further on in the first half, and is there in the second
 first_half : (k a y : ℕ) → a % 2 ^ suc k ≡ 0 → a ≤ y → y < a + 2 ^ k → bit_or y (2 ^ k) ≡ y + 2 ^ k
@@ -140,11 +98,11 @@ columns_more k a b before mid after within r t =
 -- the pass of a column, and that of the three lowest columns
 pub column_pass : (n k end column start : ℕ) (before mid after : List ℕ) → column ≡ 2 ^ k → start < end
     → Replacing n (suc k) end start (with_column k (word before)) before mid → BlockJoined start column mid after
-    → Replacing n (suc k) end (start + column + column) (with_column k (word before)) before after
+    → Replacing n (suc k) end (start + 2 * column) (with_column k (word before)) before after
 column_pass n k end column start before mid after c h p b =
-    replacing_more n (suc k) end start (start + column + column) (with_column k (word before)) (with_column k (word mid))
+    replacing_more n (suc k) end start (start + 2 * column) (with_column k (word before)) (with_column k (word mid))
     before mid after h (omega (arith, two-pow-succ k)) p
-    (block_joined k start (start + column + column) column mid after c p.aligned refl b)
+    (block_joined k start (start + 2 * column) column mid after c p.aligned (omega arith) b)
     (column_same k start (word mid) (word before) p.words.past)
 
 pub columns_pass : (n m end start : ℕ) (before mid after : List ℕ) → start < end

@@ -18,12 +18,8 @@ fn join_block(words: &mut [u32], start: usize, column: usize)
     requires { start + column + column ≤ length words.old }
     ensures { BlockJoined start column words.old words.new }
 {
-    let mut i = 0;
-    while i < column {
-        let x = start + i;
-        let further = x + column;
-        words[x] = words[x] | words[further];
-        i += 1;
+    for x in start..start + column {
+        words[x] |= words[x + column];
     }
 }
 
@@ -35,10 +31,8 @@ fn join_column(words: &mut [u32], n: u32, k: u32)
 {
     let end = power(n) as usize;
     let column = power(k) as usize;
-    let mut start = 0;
-    while start < end {
+    for start in (0..end).step_by(2 * column) {
         join_block(words, start, column);
-        start = start + column + column;
     }
 }
 
@@ -65,10 +59,8 @@ fn join_lowest(words: &mut [u32], n: u32) -> u32
         return 0;
     }
     let end = power(n) as usize;
-    let mut start = 0;
-    while start < end {
+    for start in (0..end).step_by(8) {
         join_eight(words, start);
-        start += 8;
     }
     3
 }
@@ -78,10 +70,8 @@ pub fn close(words: &mut [u32], n: u32)
     requires { (n < 32) × (2 ^ n ≤ length words.old) }
     ensures { Closed n words.old words.new }
 {
-    let mut k = join_lowest(words, n);
-    while k < n {
+    for k in join_lowest(words, n)..n {
         join_column(words, n, k);
-        k += 1;
     }
 }
 
@@ -105,7 +95,7 @@ pub fn minimal_rights(words: &[u32], x: u32, own: u32) -> u32
             return 0;
         }
         let above = rest & (rest - 1);
-        rights = rights & words[(x - (rest - above)) as usize];
+        rights &= words[(x - (rest - above)) as usize];
         rest = above;
     }
     rights
@@ -115,8 +105,5 @@ pub fn minimal_rights(words: &[u32], x: u32, own: u32) -> u32
 pub fn right_at(n: u32, k: u32) -> u32
     ensures { result ≡ right_at n k }
 {
-    if k == n {
-        return model::ROW;
-    }
-    k
+    if k == n { model::ROW } else { k }
 }

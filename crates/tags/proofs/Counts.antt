@@ -1,7 +1,7 @@
 -- Rows counted tag by tag.
 use Prim.Native.Nat.{ℕ, zero, suc, ◌+◌, ◌≤◌, ◌<◌}
 use mathlib.Core.Path.{◌≡◌, refl, sym, ap, subst, ◌∙◌}
-use mathlib.Core.List.{List, ◌∷◌}
+use mathlib.Core.List.{List, [], ◌∷◌}
 use native.Mathlib.Decide.{ℕ_discrete, dec_lt}
 use native.Mathlib.Omega.{arith}
 use lib.ListN.{length, get_or, set, drop, replicate, length-set, length-replicate}
@@ -11,9 +11,8 @@ use Rattle.model.specs.Bounds.{table_bound}
 use Rattle.model.specs.Form.{capped, number_in, cells_in}
 use Rattle.model.specs.Convert.{Tag, tags_in, count_of}
 use Rattle.attributes.proofs.Digits.{capped_small, capped_is}
-use Rattle.tags.specs.Next.{AtTag, NextTag}
+use Rattle.tags.specs.Next.{NextTag}
 use Rattle.tags.specs.Counts.{one_more, Counts}
-use Rattle.tags.proofs.Tags.{no_tags}
 
 set_length : (counts : List ℕ) (n : ℕ) → length (one_more n counts) ≡ length counts
 unfolding one_more
@@ -68,64 +67,53 @@ pub record Counting (s : List ℕ) (p : ℕ) (counts : List ℕ) : Type 0 where
   pub many : length counts ≡ table_bound
   pub sum : (t : ℕ) → t < table_bound → get_or counts t 0 + count_of t (tags_in (drop p s)) ≡ count_of t (tags_in s)
   pub small : (t : ℕ) → get_or counts t 0 ≤ p
-  pub at : AtTag s p
 
-pub counting_begun : (s : List ℕ) (p : ℕ) (counts : List ℕ) → NextTag s 0 p → counts ≡ replicate table_bound 0
-    → Counting s p counts
-counting_begun s p counts next e =
-    let zero_each : (t : ℕ) → get_or counts t 0 ≡ 0 =
-    λ t. ap (λ (l : List ℕ). get_or l t 0) e ∙ zero_at table_bound t in
+pub counting_begun : (s : List ℕ) → Counting s 0 (replicate table_bound 0)
+counting_begun s =
     record {
-      many = ap length e ∙ length-replicate {A = ℕ} table_bound 0;
-      sum = λ t l. omega (arith, zero_each t, ap (count_of t) next.same);
-      small = λ t. omega (arith, zero_each t);
-      at = next.found;
+      many = length-replicate {A = ℕ} table_bound 0;
+      sum = λ t l. omega (arith, zero_at table_bound t);
+      small = λ t. omega (arith, zero_at table_bound t);
     }
 
-counting_one : (s : List ℕ) (p n r : ℕ) (counts : List ℕ) → Counting s p counts → p < length s
-    → n ≡ capped (number_in (drop (p + 2) s)) → NextTag s (p + 2) r → Counting s r (one_more n counts)
-counting_one s p n r counts c l e next = record {
-  many = same_length ∙ c.many;
+counting_one : (s : List ℕ) (p r n : ℕ) (counts : List ℕ) → Counting s p counts → NextTag s p r
+    → n ≡ capped (number_in (drop r s)) → Counting s r (one_more n counts)
+counting_one s p r n counts c next e = record {
+  many = set_length counts n ∙ c.many;
   sum = λ t h. at t h (ℕ_discrete n t);
-  small = λ t. let low = next.low in omega (arith, more_le counts n t, c.small t);
-  at = next.found;
+  small = λ t. omega (arith, more_le counts n t, c.small t, next.behind);
 }
   where
-    same_length : length (one_more n counts) ≡ length counts
-    same_length = set_length counts n
-
     at : (t : ℕ) → t < table_bound → Dec (n ≡ t)
         → get_or (one_more n counts) t 0 + count_of t (tags_in (drop r s)) ≡ count_of t (tags_in s)
     at t h (yes f) =
         omega (
           arith,
           c.sum t h,
-          ap (count_of t) (c.at.tagged l),
-          count_same t (number_in (drop (p + 2) s), cells_in (drop (p + 2) s)) (tags_in (drop (p + 2) s))
-              (capped_is (sym f ∙ e) (omega arith)),
           ap (count_of t) next.same,
+          count_same t (number_in (drop r s), cells_in (drop r s)) (tags_in (drop r s))
+              (capped_is (sym f ∙ e) (omega arith)),
           more_same counts n t (omega (arith, c.many)) f,
         )
     at t h (no d) =
         omega (
           arith,
           c.sum t h,
-          ap (count_of t) (c.at.tagged l),
-          count_other t (number_in (drop (p + 2) s), cells_in (drop (p + 2) s)) (tags_in (drop (p + 2) s))
-              (λ z. d (e ∙ (sym (capped_small (omega arith)) ∙ z))),
           ap (count_of t) next.same,
+          count_other t (number_in (drop r s), cells_in (drop r s)) (tags_in (drop r s))
+              (λ z. d (e ∙ (sym (capped_small (omega arith)) ∙ z))),
           more_other counts n t d,
         )
 
-pub counting_more : (s : List ℕ) (p n r : ℕ) (counts after : List ℕ) → Counting s p counts → p < length s
-    → n ≡ capped (number_in (drop (p + 2) s)) → after ≡ one_more n counts → NextTag s (p + 2) r → Counting s r after
-counting_more s p n r counts after c l e f next =
-    subst (λ (x : List ℕ). Counting s r x) (sym f) (counting_one s p n r counts c l e next)
+pub counting_more : (s : List ℕ) (p r n : ℕ) (counts after : List ℕ) → Counting s p counts → NextTag s p r
+    → n ≡ capped (number_in (drop r s)) → after ≡ one_more n counts → Counting s r after
+counting_more s p r n counts after c next e f =
+    subst (λ (x : List ℕ). Counting s r x) (sym f) (counting_one s p r n counts c next e)
 
-pub counting_done : (s : List ℕ) (p : ℕ) (counts : List ℕ) → Counting s p counts → length s ≤ p
+pub counting_done : (s : List ℕ) (p : ℕ) (counts : List ℕ) → Counting s p counts → tags_in (drop p s) ≡ []
     → Counts (tags_in s) counts
 unfolding count_of
-counting_done s p counts c l = record {
+counting_done s p counts c e = record {
   many = c.many;
-  each = λ t h. omega (arith, c.sum t h, ap (count_of t) (no_tags s p l));
+  each = λ t h. omega (arith, c.sum t h, ap (count_of t) e);
 }

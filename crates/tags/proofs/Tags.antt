@@ -80,52 +80,38 @@ passed_block s p i (suc n) g l w =
     let back = passed_block s p i n g (omega arith) (λ k h. w k (omega arith)) in
     subst (λ (k : ℕ). Passed s p k) (omega arith) (passed_more s p (i + n) back (omega arith) (w n (omega arith)))
 
--- the first `<`, or the end
-pub passed_less : (s : List ℕ) (p i : ℕ) → Passed s p i → byte_at s i ≡ less → NextLess s p i
-passed_less s p i g e = record { low = g.low; same = g.same; here = λ l. e }
-
-pub passed_end : (s : List ℕ) (p i : ℕ) → Passed s p i → length s ≤ i → NextLess s p i
-passed_end s p i g l = record { low = g.low; same = g.same; here = λ h. absurd (omega arith) }
+-- the first `<`
+pub passed_less : (s : List ℕ) (p i : ℕ) → Passed s p i → i < length s → byte_at s i ≡ less → NextLess s p i
+passed_less s p i g l e = record { low = g.low; within = l; same = g.same; here = e }
 
 -- from one `<` that begins no tag to the next
-pub less_more : (s : List ℕ) (p i r : ℕ) → NextLess s p i → i < length s → (byte_at s (i + 1) ≡ row_letter → ⊥)
-    → NextLess s (i + 1) r → NextLess s p r
-less_more s p i r g l n next =
-    let low = g.low in let high = next.low in
+pub less_more : (s : List ℕ) (p q i : ℕ) → Passed s p q → NextLess s q i → (byte_at s (i + 1) ≡ row_letter → ⊥)
+    → Passed s p (i + 1)
+less_more s p q i g f n =
     record {
-      low = omega arith;
-      same = g.same ∙ (no_tag s i l (other_second s i (g.here l) n) ∙ next.same);
-      here = next.here;
+      low = omega (arith, g.low, f.low);
+      same = g.same ∙ (f.same ∙ no_tag s i f.within (other_second s i f.here n));
     }
 
-pub less_tag : (s : List ℕ) (p i : ℕ) → NextLess s p i → i < length s → byte_at s (i + 1) ≡ row_letter → NextTag s p i
-less_tag s p i g l f =
-    let e = both_bytes s i (g.here l) f in
+pub less_tag : (s : List ℕ) (p q i : ℕ) → Passed s p q → NextLess s q i → byte_at s (i + 1) ≡ row_letter
+    → NextTag s p (i + 2)
+less_tag s p q i g f h =
+    let e = both_bytes s i f.here h in
     let two : i + 1 + 1 ≡ i + 2 = omega arith in
     let second : i + 1 < length s = inside s (i + 1) (λ z. omega arith) in
     record {
-      low = g.low;
-      same = g.same;
-      found = record {
-        tagged = λ _. from_byte s i l
-            ∙ (ap (λ (t : Bool). pick t
-            ((number_in (drop (i + 2) s), cells_in (drop (i + 2) s)) ∷ tags_in (drop (i + 1) s))
-            (tags_in (drop (i + 1) s))) e
-            ∙ ap (λ (ts : List Tag). (number_in (drop (i + 2) s), cells_in (drop (i + 2) s)) ∷ ts)
-            (no_tag s (i + 1) second (other (byte_at s (i + 1)) f) ∙ ap (λ (k : ℕ). tags_in (drop k s)) two));
-        room = λ _. omega arith;
-      };
+      behind = omega (arith, g.low, f.low);
+      within = omega arith;
+      same = g.same ∙ (f.same ∙ (from_byte s i f.within
+          ∙ (ap (λ (t : Bool). pick t
+          ((number_in (drop (i + 2) s), cells_in (drop (i + 2) s)) ∷ tags_in (drop (i + 1) s))
+          (tags_in (drop (i + 1) s))) e
+          ∙ ap (λ (ts : List Tag). (number_in (drop (i + 2) s), cells_in (drop (i + 2) s)) ∷ ts)
+          (no_tag s (i + 1) second (other (byte_at s (i + 1)) h) ∙ ap (λ (k : ℕ). tags_in (drop k s)) two))));
     }
   where
     other : (x : ℕ) → x ≡ row_letter → eqb x less && eqb (byte_at s (i + 1 + 1)) row_letter ≡ false
     other x h = ap (λ (y : ℕ). eqb y less && eqb (byte_at s (i + 1 + 1)) row_letter) h
-
-pub less_none : (s : List ℕ) (p i : ℕ) → NextLess s p i → length s ≤ i → NextTag s p i
-less_none s p i g l = record {
-  low = g.low;
-  same = g.same;
-  found = record { tagged = λ h. absurd (omega arith); room = λ h. absurd (omega arith) };
-}
 
 -- behind the end there is none
 pub no_tags : (s : List ℕ) (i : ℕ) → length s ≤ i → tags_in (drop i s) ≡ []

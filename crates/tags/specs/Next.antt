@@ -22,20 +22,15 @@ pub record Passed (s : List ℕ) (p i : ℕ) : Type 0 where
   pub low : p ≤ i
   pub same : tags_in (drop p s) ≡ tags_in (drop i s)
 
--- r is where the first `<` from p on stands, or the end of the text
+-- r is where the first `<` from p on stands
 pub record NextLess (s : List ℕ) (p r : ℕ) : Type 0 where
   pub low : p ≤ r
+  pub within : r < length s
   pub same : tags_in (drop p s) ≡ tags_in (drop r s)
-  pub here : r < length s → byte_at s r ≡ less
+  pub here : byte_at s r ≡ less
 
--- where p is inside the text, a tag begins there
-pub record AtTag (s : List ℕ) (p : ℕ) : Type 0 where
-  pub tagged : p < length s
-      → tags_in (drop p s) ≡ (number_in (drop (p + 2) s), cells_in (drop (p + 2) s)) ∷ tags_in (drop (p + 2) s)
-  pub room : p < length s → p + 2 ≤ length s
-
--- r is where the first tag from p on begins, or the end of the text
+-- r is where the first tag from p on has its table's number, with its attributes behind
 pub record NextTag (s : List ℕ) (p r : ℕ) : Type 0 where
-  pub low : p ≤ r
-  pub same : tags_in (drop p s) ≡ tags_in (drop r s)
-  pub found : AtTag s r
+  pub behind : p < r
+  pub within : r ≤ length s
+  pub same : tags_in (drop p s) ≡ (number_in (drop r s), cells_in (drop r s)) ∷ tags_in (drop r s)

@@ -1,158 +1,135 @@
-// Catalogues of many columns, rows or tables, written into lent bytes. Each function answers the position behind what
-// it wrote; what does not fit is left out.
+// Catalogues of many columns, rows or tables, written into lent bytes. Each function answers what it wrote; what does
+// not fit is left out.
+ghost use Rattle.std.specs.Prelude.{◌≤◌, length};
+
 use columns::ColumnSet;
+use model::NO_PARENT;
 
-// One byte at a position.
-fn put(b: &mut [u8], at: usize, x: u8) -> usize {
-    if at < b.len() {
-        b[at] = x;
-        return at + 1;
+// Neither a parent table nor a parent row.
+const NONE: u32 = NO_PARENT as u32;
+
+// Lent bytes, written from the front on.
+#[derive(Drop)]
+struct Output<'a> {
+    bytes: &'a mut [u8],
+    at: usize,
+    ghost inside: { at ≤ length bytes.now },
+}
+
+impl<'a> Output<'a> {
+    fn new(bytes: &'a mut [u8]) -> Output<'a> {
+        Output { bytes, at: 0 }
     }
-    at
-}
 
-// A 2-byte number, and a 4-byte number.
-fn put2(b: &mut [u8], at: usize, x: u32) -> usize {
-    let next = put(b, at, (x % 256) as u8);
-    put(b, next, (x / 256 % 256) as u8)
-}
-
-fn put4(b: &mut [u8], at: usize, x: u32) -> usize {
-    let next = put2(b, at, x % 65536);
-    put2(b, next, x / 65536)
-}
-
-// A position as a 4-byte number.
-fn offset(at: usize) -> u32 {
-    (at % 65536) as u32 + 65536 * ((at / 65536 % 65536) as u32)
-}
-
-// The n codes of a row: the first, and then 5 in every other column.
-fn codes(b: &mut [u8], at: usize, n: u32, first: u32) -> usize {
-    let mut next = at;
-    let mut code = first;
-    for _ in 0..n {
-        next = put4(b, next, code);
-        code = 5;
+    // Bytes, as far as they fit.
+    fn put(&mut self, bytes: &[u8]) {
+        for x in bytes {
+            if self.at < self.bytes.len() {
+                self.bytes[self.at] = *x;
+                self.at += 1;
+            }
+        }
     }
-    next
-}
 
-// A table of n columns and r rows. Row k is under row k of the parent, and has the code k in its first column if
-// `distinct`.
-fn table(b: &mut [u8], at: usize, n: u32, parent: u32, r: u32, distinct: bool) -> usize {
-    let mut next = put2(b, at, n);
-    next = put2(b, next, parent);
-    next = put2(b, next, r);
-    for k in 0..r {
-        let up = if parent == 65535 { parent } else { k };
-        next = put2(b, next, up);
-        let first = if distinct { k } else { 5 };
-        next = codes(b, next, n, first);
+    // A 2-byte number, and a 4-byte number.
+    fn put2(&mut self, x: u32) {
+        self.put(&((x & 0xffff) as u16).to_le_bytes());
     }
-    next
-}
 
-// The trailer's end: how many tables, and where the trailer starts.
-fn finish(b: &mut [u8], at: usize, tables: u32, start: usize) -> usize {
-    let next = put2(b, at, tables);
-    put4(b, next, offset(start))
-}
-
-// The end of a catalogue of one table, behind its last row.
-fn lone(b: &mut [u8], end: usize) -> usize {
-    let next = put4(b, end, 0);
-    finish(b, next, 1, end)
-}
-
-// One table of n columns and r rows, whose first column is a key.
-pub fn flat(b: &mut [u8], n: u32, r: u32) -> usize {
-    let end = table(b, 0, n, 65535, r, true);
-    lone(b, end)
-}
-
-// One table of n columns and r equal rows.
-pub fn equal(b: &mut [u8], n: u32, r: u32) -> usize {
-    let end = table(b, 0, n, 65535, r, false);
-    lone(b, end)
-}
-
-// Overwrites the code in the first column of a row of such a table, of 16 columns.
-pub fn recode(b: &mut [u8], row: u32, code: u32) {
-    put4(b, 8 + 66 * row as usize, code);
-}
-
-// A row of n columns, with the code 0 in the members of a set, and another in the others.
-fn coded(b: &mut [u8], at: usize, n: u32, set: ColumnSet, own: u32) -> usize {
-    let mut next = put2(b, at, 65535);
-    for k in 0..n {
-        let code = if set.member(k) { 0 } else { own };
-        next = put4(b, next, code);
+    fn put4(&mut self, x: u32) {
+        self.put(&x.to_le_bytes());
     }
-    next
+
+    // The position that is written next, as a 4-byte number.
+    fn position(&self) -> u32 {
+        (self.at & 0xffff_ffff) as u32
+    }
+
+    // A table of n columns and r rows, of which row k is under row k of the parent, if there is one. The codes are
+    // `first(k)` in the first column and 5 in every other.
+    fn put_table<F: Fn(u32) -> u32>(&mut self, n: u32, parent: u32, r: u32, first: F)
+        requires { F.IsAlwaysCallable first }
+    {
+        self.put2(n);
+        self.put2(parent);
+        self.put2(r);
+        for k in 0..r {
+            self.put2(if parent == NONE { NONE } else { k });
+            for column in 0..n {
+                self.put4(if column == 0 { first(k) } else { 5 });
+            }
+        }
+    }
+
+    // A row of n columns or two equal ones, with the code 0 in the members of a set, and in the others its position,
+    // which no other row has.
+    fn put_marked(&mut self, n: u32, set: ColumnSet, twice: bool) {
+        let own = self.position();
+        for _ in 0..=u32::from(twice) {
+            self.put2(NONE);
+            for column in 0..n {
+                self.put4(if set.member(column) { 0 } else { own });
+            }
+        }
+    }
+
+    // The trailer, by how many tables there are and how many bytes each of them has but the last; and all that is
+    // written.
+    fn finish(mut self, tables: u32, apart: u32) -> &'a [u8] {
+        let start = self.position();
+        for table in 0..tables {
+            self.put4(table.wrapping_mul(apart));
+        }
+        self.put2(tables);
+        self.put4(start);
+        let Output { bytes, at, .. } = self;
+        &bytes[..at]
+    }
 }
 
-// Such a row, or two equal ones, whose other code is its position, which no other row has.
-fn marked(b: &mut [u8], at: usize, n: u32, set: ColumnSet, twice: bool) -> usize {
-    let own = offset(at);
-    let next = coded(b, at, n, set, own);
-    if twice {
-        return coded(b, next, n, set, own);
-    }
-    next
-}
-
-// The same for the set without column k, if that is a member.
-fn spared(b: &mut [u8], at: usize, n: u32, set: ColumnSet, k: u32, twice: bool) -> usize {
-    if set.member(k) {
-        return marked(b, at, n, set.without(k), twice);
-    }
-    at
+// One table of n columns and r rows, with the code `first(k)` in the first column of row k and 5 in every other.
+pub fn flat<F: Fn(u32) -> u32>(b: &mut [u8], n: u32, r: u32, first: F) -> &[u8]
+    requires { F.IsAlwaysCallable first }
+{
+    let mut out = Output::new(b);
+    out.put_table(n, NONE, r, first);
+    out.finish(1, 0)
 }
 
 // One table of n columns, in which a set has entries: a row with the code 0 in the set alone, and for each member one
 // with it in the others alone, each once or twice. The set gives every column that it lacks, and with a member less
 // none of them. With each row once it is a key, with a member less it is none; with each row twice there is no key.
-pub fn keyed(b: &mut [u8], n: u32, set: ColumnSet, twice: bool) -> usize {
-    let mut next = put2(b, 0, n);
-    next = put2(b, next, 65535);
-    let count = set.size() % 4096 + 1;
-    let rows = if twice { 2 * count } else { count };
-    next = put2(b, next, rows);
-    next = marked(b, next, n, set, twice);
+pub fn keyed(b: &mut [u8], n: u32, set: ColumnSet, twice: bool) -> &[u8] {
+    let rows = set.size() % 4096 + 1;
+    let mut out = Output::new(b);
+    out.put2(n);
+    out.put2(NONE);
+    out.put2(if twice { 2 * rows } else { rows });
+    out.put_marked(n, set, twice);
     for k in 0..n {
-        next = spared(b, next, n, set, k, twice);
+        if set.member(k) {
+            out.put_marked(n, set.without(k), twice);
+        }
     }
-    lone(b, next)
+    out.finish(1, 0)
 }
 
 // Two tables of so many columns, each with one row, the second under the first.
-pub fn two(b: &mut [u8], first: u32, second: u32) -> usize {
-    let middle = table(b, 0, first, 65535, 1, true);
-    let end = table(b, middle, second, 0, 1, true);
-    let mut next = put4(b, end, 0);
-    next = put4(b, next, offset(middle));
-    finish(b, next, 2, end)
+pub fn two(b: &mut [u8], first: u32, second: u32) -> &[u8] {
+    let mut out = Output::new(b);
+    out.put_table(first, NONE, 1, |k| k);
+    let middle = out.position();
+    out.put_table(second, 0, 1, |k| k);
+    out.finish(2, middle)
 }
 
 // So many tables of one column and r rows, each under the one before; the root's column is a key.
-pub fn deep(b: &mut [u8], tables: u32, r: u32) -> usize {
-    let mut next = table(b, 0, 1, 65535, r, true);
-    for i in 1..tables {
-        next = table(b, next, 1, i - 1, r, false);
+pub fn deep(b: &mut [u8], tables: u32, r: u32) -> &[u8] {
+    let mut out = Output::new(b);
+    out.put_table(1, NONE, r, |k| k);
+    let apart = out.position();
+    for table in 1..tables {
+        out.put_table(1, table - 1, r, |_| 5);
     }
-    let start = next;
-    next = offsets(b, next, tables, 6 + 6 * (r % 65536));
-    finish(b, next, tables, start)
-}
-
-// So many offsets from 0 on, so far apart.
-fn offsets(b: &mut [u8], at: usize, tables: u32, apart: u32) -> usize {
-    let mut next = at;
-    let mut o: u32 = 0;
-    for _ in 0..tables {
-        next = put4(b, next, o);
-        o = (o + apart % 16777216) % 16777216;
-    }
-    next
+    out.finish(tables, apart)
 }

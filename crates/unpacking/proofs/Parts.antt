@@ -1,81 +1,81 @@
--- The part of the entries that is read from an index on.
-use Prim.Native.Nat.{ℕ, zero, suc, ◌+◌, ◌-◌, ◌*◌, ◌≤◌, ◌<◌}
-use mathlib.Core.Path.{◌≡◌, refl, sym, ap, ◌∙◌}
-use mathlib.Core.List.{List, [], ◌∷◌}
+-- The part of the entries that is read from an index on, and the run while they are stored.
+use Prim.Native.Nat.{ℕ, zero, suc, ◌+◌, ◌-◌, ◌*◌, ◌≤◌, ◌<◌, min}
+use mathlib.Core.Path.{◌≡◌, refl, sym, ap, ap₂, ◌∙◌}
+use mathlib.Core.List.{List, [], ◌∷◌, ◌++◌, append-nil}
 use native.Mathlib.Omega.{arith}
-use lib.ListN.{take, drop}
-use lib.Seq.{take_all, take-nil}
+use lib.ListN.{length, take, drop, set, drop_of_length-le}
+use lib.Seq.{length-take-le}
+use Rattle.columns.proofs.Test.{is_if_eq}
+use Rattle.model.specs.Calls.{run_after}
 use Rattle.model.specs.Entries.{entry_bytes, entry_at, entries_from}
 use Rattle.model.specs.declared.Entry.{Entry}
-use Rattle.model.specs.declared.EntriesAnswer.TheVariants.{Read}
 use Rattle.entries.proofs.Entries.{length_from}
-use Rattle.unpacking.specs.declared.Plan.{Plan}
-use Rattle.unpacking.specs.Part.{Part}
+use Rattle.unpacking.specs.Part.{part_from}
 
-take_from : (file : List ℕ) (n k p : ℕ) → n ≤ k → take n (entries_from file k p) ≡ entries_from file n p
+take_from : (file : List ℕ) (n k p : ℕ) → take n (entries_from file k p) ≡ entries_from file (min n k) p
 unfolding entries_from
-take_from file zero k p h = refl
-take_from file (suc n) zero p h = absurd (omega arith)
-take_from file (suc n) (suc k) p h =
-    ap (λ (es : List Entry). entry_at file p ∷ es) (take_from file n k (p + entry_bytes) (omega arith))
+take_from file zero k p = let e : min 0 k ≡ 0 = omega arith in ap (λ (m : ℕ). entries_from file m p) (sym e)
+take_from file (suc n) zero p = let e : min (suc n) 0 ≡ 0 = omega arith in
+    ap (λ (m : ℕ). entries_from file m p) (sym e)
+take_from file (suc n) (suc k) p =
+    let e : min (suc n) (suc k) ≡ suc (min n k) = omega arith in
+    ap (λ (es : List Entry). entry_at file p ∷ es) (take_from file n k (p + entry_bytes))
+    ∙ ap (λ (m : ℕ). entries_from file m p) (sym e)
 
-drop_from : (file : List ℕ) (i k p : ℕ) → i ≤ k
-    → drop i (entries_from file k p) ≡ entries_from file (k - i) (p + entry_bytes * i)
+drop_from : (file : List ℕ) (i k p : ℕ)
+    → drop i (entries_from file k p) ≡ entries_from file (k - i) (p + entry_bytes * min i k)
 unfolding entries_from
-drop_from file zero k p h =
+drop_from file zero k p =
     let m : k ≡ k - 0 = omega arith in
-    let q : p ≡ p + entry_bytes * 0 = omega arith in
-    ap (λ (n : ℕ). entries_from file n p) m ∙ ap (entries_from file (k - 0)) q
-drop_from file (suc i) zero p h = absurd (omega arith)
-drop_from file (suc i) (suc k) p h =
+    let q : p ≡ p + entry_bytes * min 0 k = omega arith in
+    ap₂ (entries_from file) m q
+drop_from file (suc i) zero p =
+    let m : 0 ≡ 0 - suc i = omega arith in
+    ap (λ (n : ℕ). entries_from file n (p + entry_bytes * min (suc i) 0)) m
+drop_from file (suc i) (suc k) p =
     let m : k - i ≡ suc k - suc i = omega arith in
-    let q : p + entry_bytes + entry_bytes * i ≡ p + entry_bytes * suc i = omega arith in
-    drop_from file i k (p + entry_bytes) (omega arith)
-    ∙ ap (λ (n : ℕ). entries_from file n (p + entry_bytes + entry_bytes * i)) m
-    ∙ ap (entries_from file (suc k - suc i)) q
+    let q : p + entry_bytes + entry_bytes * min i k ≡ p + entry_bytes * min (suc i) (suc k) = omega arith in
+    drop_from file i k (p + entry_bytes) ∙ ap₂ (entries_from file) m q
 
-drop_past : (file : List ℕ) (i k p : ℕ) → k ≤ i → drop i (entries_from file k p) ≡ []
+-- so many entries, and the first of them
+pub part_is : (file : List ℕ) (k p from room : ℕ) {n at : ℕ} → n ≡ min (k - min from k) room
+    → at ≡ p + entry_bytes * min from k
+    → part_from file k p from room ≡ entries_from file n at
+part_is file k p from room {n} {at} e q =
+    let m : min room (k - from) ≡ n = omega arith in
+    ap (take room) (drop_from file from k p)
+    ∙ take_from file room (k - from) (p + entry_bytes * min from k)
+    ∙ ap₂ (entries_from file) m (sym q)
+
+-- one more entry is stored
+set_next : (file : List ℕ) (p : ℕ) (run : List Entry) (n : ℕ) {e : Entry} → n < length run
+    → e ≡ entry_at file (p + entry_bytes * n)
+    → set (entries_from file n p ++ drop n run) n e ≡ entries_from file (suc n) p ++ drop (suc n) run
 unfolding entries_from
-drop_past file zero zero p h = refl
-drop_past file (suc i) zero p h = refl
-drop_past file zero (suc k) p h = absurd (omega arith)
-drop_past file (suc i) (suc k) p h = drop_past file i k (p + entry_bytes) (omega arith)
+set_next file p [] n h q = absurd (omega arith)
+set_next file p (x ∷ run) zero h q = ap (λ (d : Entry). d ∷ run) (q ∙ ap (entry_at file) (omega arith))
+set_next file p (x ∷ run) (suc n) h q =
+    ap (λ (es : List Entry). entry_at file p ∷ es)
+    (set_next file (p + entry_bytes) run n (omega arith) (q ∙ ap (entry_at file) (omega arith)))
 
-abbrev pub plan_of : ℕ → ℕ → Plan
-plan_of n p = record { count = n; first = p; answer = Read n }
+pub stores_next : (file : List ℕ) (p : ℕ) (run : List Entry) (n : ℕ) {e : Entry} {items : List Entry} → n < length items
+    → items ≡ entries_from file n p ++ drop n run → length items ≡ length run
+    → e ≡ entry_at file (p + entry_bytes * n)
+    → set items n e ≡ entries_from file (n + 1) p ++ drop (n + 1) run
+stores_next file p run n {e} {items} h s l q =
+    let m : suc n ≡ n + 1 = omega arith in
+    ap (λ (es : List Entry). set es n e) s
+    ∙ set_next file p run n (omega arith) q
+    ∙ ap (λ (k : ℕ). entries_from file k p ++ drop k run) m
 
-module _ (k p from room : ℕ) where
-  pub part_none : k ≤ from → Part k p from room (plan_of 0 p)
-  unfolding entries_from
-  part_none h =
-      record {
-        answer = refl;
-        entries = λ file. ap (take room) (drop_past file from k p h) ∙ take-nil room;
-        fits = omega arith;
-        inside = omega arith;
-      }
-
-  pub part_full : {at : ℕ} → at ≡ p + entry_bytes * from → from < k → room ≤ k - from
-      → Part k p from room (plan_of room at)
-  part_full {at} e h l =
-      record {
-        answer = refl;
-        entries = λ file. ap (take room) (drop_from file from k p (omega arith))
-            ∙ take_from file room (k - from) (p + entry_bytes * from) l
-            ∙ ap (entries_from file room) (sym e);
-        fits = omega arith;
-        inside = omega arith;
-      }
-
-  pub part_rest : {at n : ℕ} → at ≡ p + entry_bytes * from → n ≡ k - from → from < k → n ≤ room
-      → Part k p from room (plan_of n at)
-  part_rest {at} {n} e c h l =
-      record {
-        answer = refl;
-        entries = λ file. ap (take room) (drop_from file from k p (omega arith))
-            ∙ take_all room (entries_from file (k - from) (p + entry_bytes * from))
-            (omega (arith, length_from file (k - from) (p + entry_bytes * from)))
-            ∙ ap (λ (m : ℕ). entries_from file m (p + entry_bytes * from)) (sym c) ∙ ap (entries_from file n) (sym e);
-        fits = l;
-        inside = omega arith;
-      }
+-- all are stored
+pub stored : (file : List ℕ) (n p : ℕ) (run : List Entry) {es items : List Entry} {m : ℕ} → es ≡ entries_from file n p
+    → n ≤ length run → m ≡ length (take n run) → items ≡ entries_from file m p ++ drop m (take n run)
+    → items ++ drop n run ≡ run_after 0 es run
+unfolding run_after
+stored file n p run {es} {items} {m} e h f s =
+    let whole : items ≡ es =
+    s ∙ ap (λ (ds : List Entry). entries_from file m p ++ ds) (drop_of_length-le (take n run) (omega arith))
+    ∙ append-nil (entries_from file m p) ∙ ap (λ (k : ℕ). entries_from file k p) (f ∙ length-take-le n run h) ∙ sym e in
+    let l : n ≡ length es = sym (ap length e ∙ length_from file n p) in
+    is_if_eq _ refl (ap₂ (λ (ds : List Entry) (k : ℕ). ds ++ drop k run) whole l)

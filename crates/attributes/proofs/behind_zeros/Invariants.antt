@@ -1,13 +1,8 @@
--- `attributes::behind_zeros` meets its contract. The invariant: the number from here on is that at p. The measure is
--- what is left of the text.
-use Prim.Native.Nat.{◌-◌}
+-- `attributes::behind_zeros` meets its contract. The invariant: the number from here on is that at p.
 use mathlib.Core.Path.{◌≡◌}
-use lib.ListN.{length, drop}
+use lib.ListN.{drop}
 use Rattle.model.specs.Form.{number_in}
 use Rattle.attributes.proofs.behind_zeros.Given as goal
 
 abbrev pub invariant-loop-i : goal.invariant-loop-i
 invariant-loop-i l = number_in (drop l.i l.s) ≡ number_in (drop l.p l.s)
-
-abbrev pub decreases-loop-i : goal.decreases-loop-i
-decreases-loop-i l = length l.s - l.i

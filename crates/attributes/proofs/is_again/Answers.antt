@@ -6,12 +6,10 @@ use Rattle.attributes.proofs.is_again.Goals as goal
 
 pub returns-then-k-ge-COLUMN_BOUND : goal.returns-then-k-ge-COLUMN_BOUND
 returns-then-k-ge-COLUMN_BOUND c =
-    let at = c in
-    noted_high at.args.s.now at.args.p at.args.seen.now at.requires
-    c.number_at-k.ensures (omega arith) c.named_again.ensures
+    let a = c.args in
+    noted_high a.s.now a.p a.seen.now c.requires c.number_at-k.ensures (omega arith) c.named_again.ensures
 
 pub returns : goal.returns
 returns c =
-    let at = c in
-    noted_low at.args.s.now at.args.p at.args.seen.now at.requires
-    c.number_at-k.ensures (omega arith) refl
+    let a = c.args in
+    noted_low a.s.now a.p a.seen.now c.requires c.number_at-k.ensures (omega arith) refl

@@ -5,8 +5,8 @@ use lib.ListN.{length}
 use Rattle.attributes.proofs.Distinct.{Sifting}
 use Rattle.attributes.proofs.is_distinct.Given as goal
 
-abbrev pub invariant-loop-i : goal.invariant-loop-i
-invariant-loop-i l = Sifting l.s l.p l.seen l.i
+abbrev pub invariant-loop-name : goal.invariant-loop-name
+invariant-loop-name l = Sifting l.s l.p l.seen l.q
 
-abbrev pub decreases-loop-i : goal.decreases-loop-i
-decreases-loop-i l = length l.s - l.i
+abbrev pub decreases-loop-name : goal.decreases-loop-name
+decreases-loop-name l = length l.s - l.q

@@ -1,13 +1,9 @@
 -- The answers of `attributes::quoted_number`.
-use Prim.Native.Nat.{◌-◌}
-use mathlib.Core.Path.{refl, sym, ap, ◌∙◌}
+use mathlib.Core.Path.{sym, ap, ◌∙◌}
 use native.Mathlib.Omega.{arith}
 use Rattle.model.specs.Form.{capped}
 use Rattle.attributes.proofs.Tags.{quoted_by, quoted_none}
 use Rattle.attributes.proofs.quoted_number.Goals as goal
-
-pub loop-i-init : goal.loop-i-init
-loop-i-init c = refl
 
 pub returns-then-is_quote : goal.returns-then-is_quote
 returns-then-is_quote c =

@@ -5,8 +5,8 @@ use lib.ListN.{length}
 use Rattle.attributes.proofs.Codes.{Storing}
 use Rattle.attributes.proofs.read_codes.Given as goal
 
-abbrev pub invariant-loop-i : goal.invariant-loop-i
-invariant-loop-i l = Storing l.s l.p l.codes l.i
+abbrev pub invariant-loop-name : goal.invariant-loop-name
+invariant-loop-name l = Storing l.s l.p l.codes l.q
 
-abbrev pub decreases-loop-i : goal.decreases-loop-i
-decreases-loop-i l = length l.s - l.i
+abbrev pub decreases-loop-name : goal.decreases-loop-name
+decreases-loop-name l = length l.s - l.q

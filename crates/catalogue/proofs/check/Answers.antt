@@ -1,20 +1,16 @@
--- `catalogue::check` meets its contract: a code that is not 0 is the refusal's number; else tables and sets are told.
-use mathlib.Core.Path.{◌∙◌}
+-- `catalogue::check` meets its contract: a ground is the refusal; else tables and sets are told.
+use mathlib.Core.Path.{refl, sym}
 use native.Mathlib.Omega.{arith}
 use Rattle.columns.proofs.Test.{is_if_eq}
-use Rattle.model.specs.Reply.{reply_of}
+use Rattle.model.specs.Reply.{reply_of, check_reply}
 use Rattle.model.specs.Check.{check_meaning}
-use Rattle.model.proofs.Grounds.{reply_refused}
-use Rattle.grounds.proofs.Sound.{check_code_le}
+use Rattle.model.proofs.Codes.{handed_reply}
 use Rattle.catalogue.proofs.check.Goals as goal
 
-pub refusal-requires : goal.refusal-requires
-refusal-requires c = omega (arith, check_code_le c.args.cat.now)
-
-pub returns-then-code-ne0 : goal.returns-then-code-ne0
+pub returns-in_err-check : goal.returns-in_err-check
 unfolding check_meaning
-returns-then-code-ne0 c = reply_refused _ (c.refusal.ensures ∙ c.check_code-code.ensures) (omega arith)
+returns-in_err-check c = handed_reply check_reply (λ e. refl) _ _ _ c.from_residual.ensures.1 c.in_err-check.ensures
 
 pub returns : goal.returns
 unfolding check_meaning reply_of
-returns c = is_if_eq _ (omega arith) (cc)
+returns c = is_if_eq _ (omega arith) cc

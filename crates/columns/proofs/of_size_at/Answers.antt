@@ -1,5 +1,5 @@
 -- The answers of `columns::of_size_at`.
-use Prim.Native.Nat.{◌-◌, ◌^◌, ◌≤◌}
+use Prim.Native.Nat.{◌-◌, ◌^◌, ◌≤◌, ◌<◌}
 use mathlib.Core.Path.{◌≡◌}
 use mathlib.Core.List.{[]}
 use native.Mathlib.Omega.{arith}
@@ -12,30 +12,18 @@ use Rattle.columns.proofs.Unrank.{sought_found}
 use Rattle.columns.proofs.of_size_at.Goals as goal
 
 pub loop-m-init : goal.loop-m-init
-loop-m-init c = (c.requires.0, c.requires.1, c.requires.2, omega arith, sought_begun _ _ _ c.requires.2)
-
-pub overflow_sub-m : goal.overflow_sub-m
-overflow_sub-m c = omega arith
-
-pub overflow_cast-c : goal.overflow_cast-c
-overflow_cast-c c = omega arith
+loop-m-init c = (c.requires.0, c.requires.1, c.requires.2, sought_begun _ _ _ c.requires.2)
 
 -- no more members than columns
 size_le : (c : goal.In-loop-m)
     → c.loop-m.size ≤ column_bound
-size_le c = let l = c.loop-m.invariant in omega (arith, l.0, sought_size _ _ _ _ _ _ _ l.4)
+size_le c = let l = c.loop-m.invariant in omega (arith, l.0, sought_size _ _ _ _ _ _ _ l.3)
 
 pub overflow_cast-c-in-loop-m : goal.overflow_cast-c-in-loop-m
 overflow_cast-c-in-loop-m c = omega (arith, size_le c)
 
-pub offset_bounds-rows-m : goal.offset_bounds-rows-m
-offset_bounds-rows-m c = omega arith
-
 pub offset_bounds-rows-size : goal.offset_bounds-rows-size
 offset_bounds-rows-size c = omega (arith, size_le c)
-
-pub bounds-rows-m : goal.bounds-rows-m
-bounds-rows-m c = omega arith
 
 pub bounds-rows-size : goal.bounds-rows-size
 bounds-rows-size c = omega (arith, size_le c)
@@ -55,15 +43,12 @@ taken : (c : goal.Then-c-left)
 taken c =
     let a = c.args in
     let l = c.loop-m in
-    let p = c.loop-m-test.true in
+    let p : 0 < l.m = omega arith in
     let h : get_or (get_or a.rows.now (l.m - 1) []) l.size 0 ≤ l.left = omega (arith, c.if-c-left.true) in
-    sought_with _ _ _ _ _ _ _ _ l.invariant.2 p (number c.before.before) h l.invariant.4
+    sought_with _ _ _ _ _ _ _ _ l.invariant.2 p (number c.before.before) h l.invariant.3
 
 pub overflow_sub-size : goal.overflow_sub-size
 overflow_sub-size c = (taken c).some
-
-pub power-set-requires : goal.power-set-requires
-power-set-requires c = omega arith
 
 pub overflow_add-set : goal.overflow_add-set
 overflow_add-set c =
@@ -72,27 +57,20 @@ overflow_add-set c =
     pow_mono {j = column_bound} l.0 in
     omega (arith, c.power-set.ensures, (taken c.before).small)
 
-pub loop-m-smaller-then-c-left : goal.loop-m-smaller-then-c-left
-loop-m-smaller-then-c-left c = omega arith
-
 pub loop-m-preserved-then-c-left : goal.loop-m-preserved-then-c-left
 loop-m-preserved-then-c-left c =
     let l = c.loop-m.invariant in
-    (l.0, l.1, l.2, omega arith, rw c.power-set.ensures (taken c.before).rest)
-
-pub loop-m-smaller : goal.loop-m-smaller
-loop-m-smaller c = omega arith
+    (l.0, l.1, l.2, rw c.power-set.ensures (taken c.before).rest)
 
 pub loop-m-preserved : goal.loop-m-preserved
 loop-m-preserved c =
     let l = c.loop-m.invariant in
-    let p = c.loop-m-test.true in (
+    let p : 0 < c.loop-m.m = omega arith in (
       l.0,
       l.1,
       l.2,
-      omega arith,
-      sought_without _ _ _ _ _ _ _ p (omega (arith, number c.before.before)) l.4,
+      sought_without _ _ _ _ _ _ _ p (omega (arith, number c.before.before)) l.3,
     )
 
 pub returns : goal.returns
-returns c = sought_found _ _ _ _ _ _ _ c.loop-m-test.false c.loop-m.invariant.4
+returns c = sought_found _ _ _ _ _ _ _ (omega arith) c.loop-m.invariant.3

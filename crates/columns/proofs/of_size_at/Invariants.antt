@@ -10,8 +10,5 @@ use Rattle.columns.proofs.of_size_at.Given as goal
 
 abbrev pub invariant-loop-m : goal.invariant-loop-m
 invariant-loop-m l =
-    (l.n ≤ column_bound) × CountsUpTo l.n l.rows × (l.index < length (of_size l.n l.k)) × (l.m ≤ l.n)
+    (l.n ≤ column_bound) × CountsUpTo l.n l.rows × (l.index < length (of_size l.n l.k))
     × Sought l.n l.k l.index l.m l.size l.left l.set
-
-abbrev pub decreases-loop-m : goal.decreases-loop-m
-decreases-loop-m l = l.m

@@ -7,9 +7,6 @@ use Rattle.columns.proofs.Pascal.{length_le}
 use Rattle.columns.proofs.Rows.{between_begun, between_more, between_done}
 use Rattle.columns.proofs.with_a_column.Goals as goal
 
-pub overflow_sub-k : goal.overflow_sub-k
-overflow_sub-k c = omega arith
-
 pub loop-k-init : goal.loop-k-init
 loop-k-init c = (c.requires.0, between_begun _ _ c.requires.1)
 
@@ -18,9 +15,6 @@ offset_bounds-row-k c = omega (arith, c.loop-k.invariant.1.inside)
 
 pub bounds-row-k : goal.bounds-row-k
 bounds-row-k c = omega (arith, c.loop-k.invariant.1.inside)
-
-pub overflow_sub-row : goal.overflow_sub-row
-overflow_sub-row c = omega arith
 
 pub offset_bounds-row-k-in-loop-k : goal.offset_bounds-row-k-in-loop-k
 offset_bounds-row-k-in-loop-k c = omega (arith, c.loop-k.invariant.1.inside)
@@ -31,25 +25,13 @@ bounds-row-k-in-loop-k c = omega (arith, c.loop-k.invariant.1.inside)
 pub overflow_add-row : goal.overflow_add-row
 overflow_add-row c =
     let n = c.args.n in
-    let k = c.loop-k.k in
+    let k = c.loop-k.k - 1 in
     let b = c.loop-k.invariant.1 in
     let l : 2 ^ n ≤ 2 ^ column_bound = pow_mono {j = column_bound} (omega arith) in
     omega (arith, b.old k (omega arith), b.old (k - 1) (omega arith), length_le n k, length_le n (k - 1))
 
-pub offset_bounds-row-k-in-loop-k-2 : goal.offset_bounds-row-k-in-loop-k-2
-offset_bounds-row-k-in-loop-k-2 c = omega (arith, c.loop-k.invariant.1.inside)
-
-pub bounds-row-k-in-loop-k-2 : goal.bounds-row-k-in-loop-k-2
-bounds-row-k-in-loop-k-2 c = omega (arith, c.loop-k.invariant.1.inside)
-
-pub overflow_sub-k-in-loop-k : goal.overflow_sub-k-in-loop-k
-overflow_sub-k-in-loop-k c = omega arith
-
-pub loop-k-smaller : goal.loop-k-smaller
-loop-k-smaller c = omega arith
-
 pub loop-k-preserved : goal.loop-k-preserved
-loop-k-preserved c = (c.loop-k.invariant.0, between_more _ _ _ c.loop-k-test.true c.loop-k.invariant.1)
+loop-k-preserved c = (c.loop-k.invariant.0, between_more _ _ _ (omega arith) c.loop-k.invariant.1)
 
 pub returns : goal.returns
-returns c = between_done _ _ _ c.loop-k.invariant.0 c.loop-k-test.false c.loop-k.invariant.1
+returns c = between_done _ _ _ c.loop-k.invariant.0 (omega arith) c.loop-k.invariant.1

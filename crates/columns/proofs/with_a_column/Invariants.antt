@@ -6,7 +6,4 @@ use Rattle.columns.proofs.Rows.{Between}
 use Rattle.columns.proofs.with_a_column.Given as goal
 
 abbrev pub invariant-loop-k : goal.invariant-loop-k
-invariant-loop-k l = (l.n < column_bound) × Between l.n l.k l.row
-
-abbrev pub decreases-loop-k : goal.decreases-loop-k
-decreases-loop-k l = l.k
+invariant-loop-k l = (l.n < column_bound) × Between l.n (l.k - 1) l.row

@@ -2,7 +2,7 @@
 -- is the depth: an element calls content one less deep, and content calls elements as deep as itself, so it is 2 for
 -- each level, and 1 more for content. The loop's invariant: what is read from here is what is read from the start. Its
 -- measure is what is left of the text.
-use Prim.Native.Nat.{◌+◌, ◌-◌, ◌*◌}
+use Prim.Native.Nat.{◌+◌, ◌-◌, ◌*◌, ◌≤◌}
 use mathlib.Core.Path.{◌≡◌}
 use lib.ListN.{length}
 use Rattle.model.specs.Form.{content_by, element_at}
@@ -16,10 +16,11 @@ decreases-content l = 2 * l.depth + 1
 abbrev pub decreases-element : goal.decreases-element
 decreases-element l = 2 * l.depth
 
-abbrev pub invariant-content-loop-end : goal.invariant-content-loop-end
-invariant-content-loop-end l =
-    content_from l.s (taken l.strict l.shape) l.depth l.up l.q
-    ≡ content_by l.s (element_at l.s (taken l.strict l.shape) l.depth l.up) l.p
+abbrev pub invariant-content-loop-q : goal.invariant-content-loop-q
+invariant-content-loop-q l =
+    (content_from l.s (taken l.strict l.shape) l.depth l.up l.q
+    ≡ content_by l.s (element_at l.s (taken l.strict l.shape) l.depth l.up) l.p)
+    × (l.p ≤ l.q)
 
-abbrev pub decreases-content-loop-end : goal.decreases-content-loop-end
-decreases-content-loop-end l = length l.s - l.q
+abbrev pub decreases-content-loop-q : goal.decreases-content-loop-q
+decreases-content-loop-q l = length l.s - l.q

@@ -3,6 +3,7 @@ use Prim.Native.Nat.{ℕ}
 use mathlib.Core.Path.{◌≡◌, sym, ap, ◌∙◌}
 use mathlib.Core.Bool.{Bool, not}
 use native.Mathlib.Decide.{ℕ_discrete}
+use native.Mathlib.Omega.{arith}
 use borrow.Author.Tests.{eq-eqb, ne_eqb}
 use lib.Dec.{eqb}
 use lib.ListN.{length}
@@ -26,25 +27,23 @@ tested a b = at (ℕ_discrete a b)
     at (yes e) = eq-eqb a b e ∙ sym (ap is_read (if_eq_yes 0 e))
     at (no n) = ne_eqb a b n ∙ sym (ap is_read (if_eq_no 1 n))
 
-pub returns-then-name-eq0 : goal.returns-then-name-eq0
+pub returns-in_default : goal.returns-in_default
 unfolding document_at
-returns-then-name-eq0 c =
-    let s = c.args.s.now in
-    ap is_read
-    (none_read _ (read_at (word_at s open_catalogue) c.word_at-name.ensures c.skip.ensures) c.if-name-eq0.true)
+returns-in_default c =
+    ap is_read (none_read _ (read_at (word_at c.args.s.now open_catalogue) c.in_default.ensures.place c.skip.ensures))
 
-pub returns-then-end-eq0 : goal.returns-then-end-eq0
+pub returns-in_default-root_end : goal.returns-in_default-root_end
 unfolding document_at
-returns-then-end-eq0 c =
+returns-in_default-root_end c =
     let a = c.args in
     let s = a.s.now in
     ap is_read
-    (some_read _ (read_at (word_at s open_catalogue) c.word_at-name.ensures c.skip.ensures) c.if-name-eq0.false
+    (some_read {p = c.skip.result} _ (read_at (word_at s open_catalogue) c.in-Some.ensures.place c.skip.ensures)
+    (omega (arith, c.in-Some.ensures.onward))
     (none_read _
     (read_at
     (rest_at s (content_by s (element_at s (taken a.strict a.shape.now) table_bound no_parent)) catalogue_name)
-    c.root_end-end.ensures c.skip-2.ensures)
-    c.if-end-eq0.true))
+    c.in_default-root_end.ensures.place c.skip-2.ensures)))
 
 pub returns : goal.returns
 unfolding document_at
@@ -53,9 +52,10 @@ returns c =
     let s = a.s.now in
     tested c.skip-3.result (length s)
     ∙ ap is_read
-    (some_read _ (read_at (word_at s open_catalogue) c.word_at-name.ensures c.skip.ensures) c.if-name-eq0.false
+    (some_read {p = c.skip.result} _ (read_at (word_at s open_catalogue) c.in-Some.ensures.place c.skip.ensures)
+    (omega (arith, c.in-Some.ensures.onward))
     (some_read _
     (read_at
     (rest_at s (content_by s (element_at s (taken a.strict a.shape.now) table_bound no_parent)) catalogue_name)
-    c.root_end-end.ensures c.skip-2.ensures)
-    c.if-end-eq0.false (ap (λ (x : ℕ). if_eq x (length s) 1 0) c.skip-3.ensures)))
+    c.in-Some-root_end.ensures.place c.skip-2.ensures)
+    c.in-Some-root_end.ensures.onward (ap (λ (x : ℕ). if_eq x (length s) 1 0) c.skip-3.ensures)))

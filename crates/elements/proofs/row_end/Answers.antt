@@ -29,9 +29,9 @@ slice_bounds-end_at-start c = omega (arith, named c.args.s.now c.args.p c.requir
 pub slice_bounds-end_at-end : goal.slice_bounds-end_at-end
 slice_bounds-end_at-end c = omega (arith, named c.args.s.now c.args.p c.requires)
 
-pub returns : goal.returns
+pub returns-clause-place : goal.returns-clause-place
 unfolding name_of
-returns c =
+returns-clause-place c =
     let a = c.args in
     read_at (λ m. end_at a.s.now (take (m - (a.p + 1)) (drop (a.p + 1) a.s.now)) a.q)
-    c.end_at.ensures c.digits_end-end.ensures
+    c.end_at.ensures.place c.digits_end-end.ensures

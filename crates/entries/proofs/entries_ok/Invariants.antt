@@ -1,14 +1,12 @@
 -- `entries::entries_ok` meets its contract. The loop: what the checks say of all entries is what they say of those that
 -- are left.
 use mathlib.Core.Path.{◌≡◌}
-use Prim.Native.Nat.{◌+◌, ◌*◌, ◌≤◌}
-use lib.ListN.{length}
-use Rattle.model.specs.Entries.{entry_bytes, entries_from, rest_code, entries_code}
+use Prim.Native.Nat.{◌+◌, ◌-◌, ◌*◌}
+use Rattle.model.specs.Entries.{entry_bytes, entries_from, entries_code}
+use Rattle.entries.specs.Verdict.{codes_after}
 use Rattle.entries.proofs.entries_ok.Given as goal
 
-abbrev pub invariant-loop-left : goal.invariant-loop-left
-invariant-loop-left l = (entries_code (entries_from l.file l.count l.from) ≡ rest_code l.before (entries_from l.file l.left l.at))
-    × (l.at + entry_bytes * l.left ≤ length l.file)
-
-abbrev pub decreases-loop-left : goal.decreases-loop-left
-decreases-loop-left l = l.left
+abbrev pub invariant-loop-i : goal.invariant-loop-i
+invariant-loop-i l =
+    entries_code (entries_from l.file l.count l.from)
+    ≡ codes_after l.before (entries_from l.file (l.count - l.i) (l.from + entry_bytes * l.i))

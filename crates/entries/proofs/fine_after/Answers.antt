@@ -1,18 +1,13 @@
--- `entries::fine_after` meets its contract: ground by ground.
-use mathlib.Core.Path.{ap}
-use mathlib.Core.Bool.{not}
-use Rattle.entries.proofs.Checks.{after_bad, after_none, after_later}
+-- `entries::fine_after` meets its contract: the entry alone, and behind the one before.
+use mathlib.Core.Path.{ap, ◌∙◌}
+use borrow.Author.Rules.{rules}
+use Rattle.entries.specs.Verdict.{bad_unless}
+use Rattle.entries.proofs.Checks.{alone_bad, alone_fine}
 use Rattle.entries.proofs.fine_after.Goals as goal
 
-pub returns-then-not-entry_ok : goal.returns-then-not-entry_ok
-returns-then-not-entry_ok c = after_bad _ _ _ c.entry_ok.result c.entry_ok.ensures (ap not c.if-not-entry_ok.true)
+pub returns-then-entry_ok : goal.returns-then-entry_ok
+returns-then-entry_ok c =
+    alone_fine c.args.before _ c.is_none_or.result c.if-entry_ok.ensures c.is_none_or.ensures (λ d h. search (rules, h))
 
-pub returns-then-at-eq0 : goal.returns-then-at-eq0
-returns-then-at-eq0 c =
-    after_none _ _ _ c.entry_ok.result c.entry_ok.ensures (ap not c.if-not-entry_ok.false)
-    c.if-at-eq0.true
-
-pub returns : goal.returns
-returns c =
-    after_later _ _ _ c.entry_ok.result c.entry_ok.ensures
-    (ap not c.if-not-entry_ok.false) c.if-at-eq0.false c.earlier.ensures
+pub returns-else-entry_ok : goal.returns-else-entry_ok
+returns-else-entry_ok c = ap bad_unless c.if-entry_ok.false ∙ alone_bad c.args.before _ c.if-entry_ok.ensures

@@ -11,9 +11,6 @@ sum_fits : (low high : ℕ) → low < 4294967296 → high < 4294967296
     → low * 2246822519 + high * 1640531527 < 18446744073709551616
 sum_fits low high l h = omega arith
 
-pub overflow_add-result : goal.overflow_add-result
-overflow_add-result c = record { fits = sum_fits _ _ (omega arith) (omega arith) }
-
 pub returns : goal.returns
 unfolding chain_of
 returns c = (refl, mod-lt _ (omega arith))

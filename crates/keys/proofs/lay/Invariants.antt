@@ -1,5 +1,4 @@
 -- `keys::lay` meets its contract. The invariant: how far the walk has come. The measure is the table's number.
-use Prim.Native.Nat.{◌-◌}
 use Rattle.keys.proofs.Laying.{Laying}
 use Rattle.keys.proofs.lay.Given as goal
 

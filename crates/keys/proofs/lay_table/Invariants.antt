@@ -1,5 +1,4 @@
--- `keys::lay_table` meets its contract. The invariant: the columns from j on are laid. The measure is j.
-use Prim.Native.Nat.{◌≤◌}
+-- `keys::lay_table` meets its contract. The invariant: the columns from j on are laid.
 use mathlib.Core.Path.{◌≡◌}
 use lib.ListN.{length}
 use Rattle.model.specs.Bounds.{row_bound}
@@ -8,8 +7,5 @@ use Rattle.keys.proofs.lay_table.Given as goal
 
 abbrev pub invariant-loop-j : goal.invariant-loop-j
 invariant-loop-j l =
-    (l.j ≤ l.c) × (length l.words ≡ row_bound) × (length l.leaders ≡ row_bound)
+    (length l.words ≡ row_bound) × (length l.leaders ≡ row_bound)
     × LaidTable l.cat l.o l.c l.low l.reached l.end l.set l.j l.initial.keys l.keys
-
-abbrev pub decreases-loop-j : goal.decreases-loop-j
-decreases-loop-j l = l.j

@@ -7,7 +7,7 @@ use Rattle.marks.proofs.close_lefts.Goals as goal
 
 pub mark_lefts-requires : goal.mark_lefts-requires
 mark_lefts-requires c =
-    (blank_room c.args.m (omega arith) (omega arith), omega arith, c.requires.2)
+    (blank_room c.args.m (omega arith) (omega arith), c.requires.1)
 
 pub fill-requires : goal.fill-requires
 fill-requires c =
@@ -17,5 +17,5 @@ fill-requires c =
 
 pub returns : goal.returns
 returns c =
-    lefts_closed _ _ _ _ 2048 _ _ c.requires.2 c.mark_lefts.ensures
+    lefts_closed _ _ _ _ 2048 _ _ c.requires.1 c.mark_lefts.ensures
     c.fill.ensures

@@ -7,7 +7,7 @@ use Rattle.marks.proofs.close_sets.Goals as goal
 
 pub mark_sets-requires : goal.mark_sets-requires
 mark_sets-requires c =
-    (blank_room c.args.m (omega arith) (omega arith), omega arith, c.requires.2)
+    (blank_room c.args.m (omega arith) (omega arith), c.requires.1)
 
 pub fill-requires : goal.fill-requires
 fill-requires c =
@@ -17,5 +17,5 @@ fill-requires c =
 
 pub returns : goal.returns
 returns c =
-    sets_closed _ _ _ _ 2048 _ _ c.requires.2 c.mark_sets.ensures
+    sets_closed _ _ _ _ 2048 _ _ c.requires.1 c.mark_sets.ensures
     c.fill.ensures

@@ -1,34 +1,27 @@
 -- The answers of `marks::mark_lefts`.
 use native.Mathlib.Omega.{arith}
 use borrow.Author.Rules.{rules}
-use Rattle.marks.proofs.Marking.{marking_begun, marking_fine, marking_more, marking_done}
-use Rattle.evidence.proofs.Lists.{entries_none, entries_next}
+use Rattle.evidence.proofs.Lists.{each_entry, some_entry}
+use Rattle.marks.specs.Listed.{LeftAt, SetAt, NarrowLeft, NarrowSet}
+use Rattle.marks.proofs.Marking.{marking_begun, marking_more, marking_done}
 use Rattle.planes.proofs.Marks.{room_kept}
 use Rattle.marks.proofs.mark_lefts.Goals as goal
 
-pub loop-rest-init : goal.loop-rest-init
-loop-rest-init c = (marking_begun c.requires.2, omega arith)
+pub loop-i-init : goal.loop-i-init
+loop-i-init c = marking_begun
 
 pub mark_left-requires : goal.mark_left-requires
-mark_left-requires c =
-    let g = c.loop-rest.invariant.0 in (
-      room_kept g.same_length c.requires.0,
-      marking_fine (entries_next _ _ _ (omega arith)) g,
-      omega arith,
-    )
+mark_left-requires c = (
+  room_kept c.loop-i.invariant.same_length c.requires.0,
+  omega arith,
+  (each_entry (NarrowLeft c.args.m c.args.target c.args.right) c.args.list.file.now c.args.list.count c.args.list.first).0 c.requires.1 _ (omega arith),
+)
 
-pub loop-rest-smaller : goal.loop-rest-smaller
-loop-rest-smaller c = omega arith
-
-pub loop-rest-preserved : goal.loop-rest-preserved
-loop-rest-preserved c =
-    let g = c.loop-rest.invariant.0 in (
-      marking_more (entries_next _ _ _ (omega arith)) (omega arith) c.mark_left.ensures g,
-      omega arith,
-    )
+pub loop-i-preserved : goal.loop-i-preserved
+loop-i-preserved c = marking_more c.mark_left.auto.plane c.mark_left.ensures c.loop-i.invariant
 
 pub shape_of-plane : goal.shape_of-plane
-shape_of-plane c = let g = c.loop-rest.invariant.0 in search rules
+shape_of-plane c = let g = c.loop-i.invariant.same_length in search rules
 
 pub returns : goal.returns
-returns c = marking_done (entries_none _ _ _ (omega arith)) c.loop-rest.invariant.0
+returns c = marking_done (omega arith) (λ y. some_entry (LeftAt c.args.m c.args.target c.args.right y) c.args.list.file.now c.args.list.count c.args.list.first) c.loop-i.invariant

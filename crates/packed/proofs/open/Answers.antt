@@ -1,29 +1,18 @@
--- `packed::open` meets its contract: ground by ground.
+-- `packed::open` meets its contract: 14, 15, or the list.
 use native.Mathlib.Omega.{arith}
-use Rattle.packed.proofs.Opening.{too_short, wrong_distance, too_far, bad_list, good_list}
+use Rattle.packed.proofs.Opening.{no_list, bad_list, good_list}
 use Rattle.packed.proofs.open.Goals as goal
 
 pub returns-then-file-lt-TRAILER_BYTES : goal.returns-then-file-lt-TRAILER_BYTES
-returns-then-file-lt-TRAILER_BYTES c = too_short _ (omega arith)
-
-pub returns-then-distance-count : goal.returns-then-distance-count
-returns-then-distance-count c =
-    wrong_distance _ (omega arith) c.distance_in-distance.ensures c.count_in-count.ensures
-    (λ z. omega arith)
-
-pub returns-then-file-distance : goal.returns-then-file-distance
-returns-then-file-distance c =
-    too_far _ (omega arith) c.distance_in-distance.ensures c.count_in-count.ensures
-    (omega arith) (omega arith)
+returns-then-file-lt-TRAILER_BYTES c =
+    no_list _ c.distance_in-distance.ensures c.count_in-count.ensures (λ h e l. grind arith)
 
 pub returns-then-not-entries_ok : goal.returns-then-not-entries_ok
 returns-then-not-entries_ok c =
-    bad_list _ c.entries_ok.result (omega arith) c.distance_in-distance.ensures
-    c.count_in-count.ensures (omega arith) (omega arith)
-    c.entries_ok.ensures c.if-not-entries_ok.true
+    bad_list _ (omega arith) c.distance_in-distance.ensures c.count_in-count.ensures (omega arith) (omega arith)
+    c.if-not-entries_ok.ensures
 
 pub returns : goal.returns
 returns c =
-    good_list _ c.entries_ok.result (omega arith) c.distance_in-distance.ensures
-    c.count_in-count.ensures (omega arith) (omega arith)
-    c.entries_ok.ensures c.if-not-entries_ok.false
+    good_list _ (omega arith) c.distance_in-distance.ensures c.count_in-count.ensures (omega arith) (omega arith)
+    c.if-not-entries_ok.ensures

@@ -9,5 +9,5 @@ returns-then-a-lt5 c = selected_low _ _ _ _ (omega arith) c.clear.ensures
 pub returns-then-i-a-eq1 : goal.returns-then-i-a-eq1
 returns-then-i-a-eq1 c = selected_none _ _ _ (omega arith) c.if-i-a-eq1.true
 
-pub returns : goal.returns
-returns c = selected_all _ _ _ (omega arith) c.if-i-a-eq1.false
+pub returns-else-i-a-eq1 : goal.returns-else-i-a-eq1
+returns-else-i-a-eq1 c = selected_all _ _ _ (omega arith) c.if-i-a-eq1.false

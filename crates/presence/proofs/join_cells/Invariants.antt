@@ -4,7 +4,4 @@ use Rattle.presence.proofs.Cells.{Joining}
 use Rattle.presence.proofs.join_cells.Given as goal
 
 abbrev pub invariant-loop-j : goal.invariant-loop-j
-invariant-loop-j l = Joining (present_cell l.cat l.from) l.c l.set l.j l.joined
-
-abbrev pub decreases-loop-j : goal.decreases-loop-j
-decreases-loop-j l = l.j
+invariant-loop-j l = Joining (present_cell l.cat l.from) l.c l.initial.joined l.j l.joined

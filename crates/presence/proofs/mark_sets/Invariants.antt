@@ -1,14 +1,7 @@
 -- `presence::mark_sets` meets its contract: the sets of the rows so far are marked.
-use Prim.Native.Nat.{◌-◌, ◌≤◌}
-use mathlib.Core.Path.{◌≡◌}
-use lib.ListN.{length}
 use Rattle.table.specs.Backed.{LaidSet}
 use Rattle.planes.specs.Marks.{Marked}
 use Rattle.presence.proofs.mark_sets.Given as goal
 
 abbrev pub invariant-loop-q : goal.invariant-loop-q
-invariant-loop-q l =
-    Marked (LaidSet l.sets l.q) l.initial.plane l.plane × (length l.plane ≡ length l.initial.plane) × (l.q ≤ l.end)
-
-abbrev pub decreases-loop-q : goal.decreases-loop-q
-decreases-loop-q l = l.end - l.q
+invariant-loop-q l = Marked (LaidSet l.sets l.q) l.initial.plane l.plane

@@ -1,25 +1,18 @@
--- The answers of `records::all_known`.
-use native.Mathlib.Omega.{arith}
-use Rattle.evidence.proofs.Answers.{says_yes, says_no}
-use Rattle.records.proofs.Laws.{going_begun, going_more, going_failed, going_done}
+-- `records::all_known` meets its contract: record by record.
+use mathlib.Core.Path.{refl}
+use Prim.Native.Nat.{◌<◌}
+use borrow.Author.Rules.{rules}
+use borrow.Author.Tests.{tests}
+use Rattle.model.specs.declared.Evidence.{Evidence}
+use Rattle.evidence.specs.Run.{record_of}
+use Rattle.evidence.proofs.Answers.{same_as}
+use Rattle.evidence.proofs.Lists.{each_record}
+use Rattle.evidence.proofs.Ranges.{all_below}
 use Rattle.records.proofs.all_known.Goals as goal
 
--- src/lib.rt:140:5
-pub loop-rest-init : goal.loop-rest-init
-loop-rest-init c = going_begun c.requires
-
--- src/lib.rt:143:13
-pub returns-then-tables-e : goal.returns-then-tables-e
-returns-then-tables-e c =
-    says_no (going_failed c.loop-rest-test.true c.record_at-e.ensures
-    c.loop-rest.invariant (λ l. omega (arith, l, c.if-tables-e.true)))
-
--- src/lib.rt:140:5
-pub loop-rest-preserved : goal.loop-rest-preserved
-loop-rest-preserved c =
-    going_more c.loop-rest-test.true c.record_at-e.ensures
-    c.loop-rest.invariant (omega (arith, c.if-tables-e.false))
-
--- src/lib.rt:134:1
 pub returns : goal.returns
-returns c = says_yes (going_done (omega arith) c.loop-rest.invariant)
+returns c =
+    let a = c.args in
+    same_as (each_record (λ (e : Evidence). e.target < a.tables) a.records.bytes.now a.records.count)
+    (all_below _ _ _ _ (λ i. (record_of a.records i).target < a.tables) c.all.ensures.ran
+    (λ x q k. search (rules, tests)) (λ x q k. search (rules, tests)) refl)

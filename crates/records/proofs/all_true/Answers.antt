@@ -1,21 +1,17 @@
--- The answers of `records::all_true`.
-use mathlib.Core.Path.{ap}
-use mathlib.Core.Bool.{not}
-use native.Mathlib.Omega.{arith}
-use Rattle.evidence.proofs.Answers.{says_yes, says_no, said_yes, said_no}
-use Rattle.records.proofs.Laws.{going_begun, going_more, going_failed, going_done}
+-- `records::all_true` meets its contract: record by record.
+use mathlib.Core.Path.{refl}
+use borrow.Author.Rules.{rules}
+use borrow.Author.Tests.{tests}
+use Rattle.evidence.specs.Run.{record_of}
+use Rattle.evidence.proofs.Answers.{same_as}
+use Rattle.evidence.proofs.Lists.{each_record}
+use Rattle.evidence.proofs.Ranges.{all_below}
+use Rattle.records.specs.True.{TrueByFor}
 use Rattle.records.proofs.all_true.Goals as goal
 
-pub loop-rest-init : goal.loop-rest-init
-loop-rest-init c = going_begun c.requires.2
-
-pub returns-then-not-is_true_for : goal.returns-then-not-is_true_for
-returns-then-not-is_true_for c = says_no (going_failed c.loop-rest-test.true c.record_at-e.ensures
-    c.loop-rest.invariant (said_no c.is_true_for.ensures (ap not c.if-not-is_true_for.true)))
-
-pub loop-rest-preserved : goal.loop-rest-preserved
-loop-rest-preserved c = going_more c.loop-rest-test.true c.record_at-e.ensures
-    c.loop-rest.invariant (said_yes c.is_true_for.ensures (ap not c.if-not-is_true_for.false))
-
 pub returns : goal.returns
-returns c = says_yes (going_done (omega arith) c.loop-rest.invariant)
+returns c =
+    let a = c.args in
+    same_as (each_record (TrueByFor a.keys.now a.n a.low a.end a.target) a.records.bytes.now a.records.count)
+    (all_below _ _ _ _ (λ i. TrueByFor a.keys.now a.n a.low a.end a.target (record_of a.records i)) c.all.ensures.ran
+    (λ x q k. search (rules, tests)) (λ x q k. search (rules, tests)) refl)

@@ -1,13 +1,7 @@
--- `scanner::digits_end` meets its contract. The invariant: the answer from here is the answer from the start. The
--- measure is what is left of the text.
-use Prim.Native.Nat.{◌-◌}
+-- `scanner::digits_end` meets its contract. The invariant: the answer from here is the answer from the start.
 use mathlib.Core.Path.{◌≡◌}
-use lib.ListN.{length}
 use Rattle.model.specs.Form.{digits_end}
 use Rattle.scanner.proofs.digits_end.Given as goal
 
 abbrev pub invariant-loop-q : goal.invariant-loop-q
 invariant-loop-q l = digits_end l.s l.q ≡ digits_end l.s l.p
-
-abbrev pub decreases-loop-q : goal.decreases-loop-q
-decreases-loop-q l = length l.s - l.q

@@ -1,10 +1,6 @@
--- `sheets::put_codes` meets its contract: of the codes k are written.
-use Prim.Native.Nat.{◌-◌}
+-- `sheets::put_codes` meets its contract: the codes before k are written.
 use Rattle.sheets.proofs.Rows.{Coding}
 use Rattle.sheets.proofs.put_codes.Given as goal
 
 abbrev pub invariant-loop-k : goal.invariant-loop-k
-invariant-loop-k l = Coding l.codes l.n l.initial.out l.at l.out l.k
-
-abbrev pub decreases-loop-k : goal.decreases-loop-k
-decreases-loop-k l = l.n - l.k
+invariant-loop-k l = Coding l.codes l.initial.out l.at l.out l.k

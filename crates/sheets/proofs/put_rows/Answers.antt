@@ -1,30 +1,26 @@
 -- The answers of `sheets::put_rows`.
-use native.Mathlib.Omega.{arith}
 use Rattle.sheets.proofs.Rows.{rowing_begun, rowing_room, rowing_more, rowing_done}
 use Rattle.sheets.proofs.put_rows.Goals as goal
 
-pub loop-p-init : goal.loop-p-init
-loop-p-init c = rowing_begun _ _ _ _ _ _ c.next_tag-p.ensures
+pub loop-number-init : goal.loop-number-init
+loop-number-init c = rowing_begun _ _ _ _ _ _
 
 pub put_tag-to-requires : goal.put_tag-to-requires
 put_tag-to-requires c =
     let pre = c.requires in (
       pre.2,
-      rowing_room _ _ _ _ _ _ c.loop-p.invariant pre.0 pre.1 (omega arith)
+      rowing_room _ _ _ _ _ _ c.loop-number.invariant pre.0 pre.1 c.in-Some.ensures
           c.up_of.ensures c.number_at-n.ensures pre.3,
     )
 
-pub loop-p-preserved : goal.loop-p-preserved
-loop-p-preserved c =
-    let put = c in
-    let turn = put in
-    let pre = turn.requires in
-    rowing_more _ _ _ _ _ _ turn.loop-p.invariant pre.0 pre.1 (omega arith) put.up_of.ensures
-    put.number_at-n.ensures put.put_tag-to.ensures c.seen_after-seen.ensures
-    c.next_tag-p-in-loop-p.ensures
+pub loop-number-preserved : goal.loop-number-preserved
+loop-number-preserved c =
+    let pre = c.requires in
+    rowing_more _ _ _ _ _ _ c.loop-number.invariant pre.0 pre.1 c.in-Some.ensures c.up_of.ensures
+    c.number_at-n.ensures c.put_tag-to.ensures c.seen_after-seen.ensures
 
 pub shape_of-out : goal.shape_of-out
-shape_of-out c = c.loop-p.invariant.writing.size
+shape_of-out c = c.loop-number.invariant.writing.size
 
 pub returns : goal.returns
-returns c = rowing_done _ _ _ _ _ _ c.loop-p.invariant (omega arith)
+returns c = rowing_done _ _ _ _ _ _ c.loop-number.invariant c.in_default.ensures

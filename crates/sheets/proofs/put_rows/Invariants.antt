@@ -5,8 +5,8 @@ use lib.ListN.{length}
 use Rattle.sheets.proofs.Rows.{Rowing}
 use Rattle.sheets.proofs.put_rows.Given as goal
 
-abbrev pub invariant-loop-p : goal.invariant-loop-p
-invariant-loop-p l = Rowing l.s l.columns l.above l.table l.initial.out l.at l.p l.seen l.out l.to
+abbrev pub invariant-loop-number : goal.invariant-loop-number
+invariant-loop-number l = Rowing l.s l.columns l.above l.table l.initial.out l.at l.p l.seen l.out l.to
 
-abbrev pub decreases-loop-p : goal.decreases-loop-p
-decreases-loop-p l = length l.s - l.p
+abbrev pub decreases-loop-number : goal.decreases-loop-number
+decreases-loop-number l = length l.s - l.p

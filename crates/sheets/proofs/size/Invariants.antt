@@ -1,10 +1,6 @@
 -- `sheets::size` meets its contract: the sizes of the tables before this one are added up.
-use Prim.Native.Nat.{◌-◌}
 use Rattle.sheets.proofs.Tables.{Sizing}
 use Rattle.sheets.proofs.size.Given as goal
 
 abbrev pub invariant-loop-table : goal.invariant-loop-table
 invariant-loop-table l = Sizing l.shape l.counts l.table l.sum
-
-abbrev pub decreases-loop-table : goal.decreases-loop-table
-decreases-loop-table l = l.n - l.table

@@ -10,4 +10,4 @@ returns-then-table-eq0 c = is_if_eq _ c.if-table-eq0.true refl
 
 pub returns : goal.returns
 unfolding up_of
-returns c = is_if_ne _ c.if-table-eq0.false c.back.ensures
+returns c = is_if_ne _ c.if-table-eq0.false c.saturating_sub.ensures

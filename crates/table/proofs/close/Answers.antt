@@ -1,6 +1,4 @@
 -- The answers of `table::close`.
-use Prim.Native.Nat.{◌-◌}
-use mathlib.Core.Path.{refl}
 use native.Mathlib.Numerals.{add-one}
 use native.Mathlib.Omega.{arith}
 use borrow.Author.Rules.{rules}
@@ -8,16 +6,11 @@ use Rattle.table.proofs.Closing.{close_more, close_done}
 use Rattle.table.proofs.Joining.{columns_closed}
 use Rattle.table.proofs.close.Goals as goal
 
-pub loop-k-init : goal.loop-k-init
-loop-k-init c = (search rules, refl, λ ws h. h)
-
 pub loop-k-preserved : goal.loop-k-preserved
 loop-k-preserved c =
-    let more = c.loop-k.invariant.2 in
-    let j = c.join_column.ensures in
-    (omega arith, search rules, λ ws h. rw add-one (close_more _ _ _ _ _ (omega arith) (more ws h) j))
+    λ ws h. rw add-one (close_more _ _ _ _ _ (omega arith) (c.loop-k.invariant ws h) c.join_column.ensures)
 
 pub returns : goal.returns
 returns c =
     let j = c.join_lowest-k.ensures in
-    close_done _ _ _ _ (omega arith) (c.loop-k.invariant.2 _ (columns_closed _ _ _ _ j.0 (search rules) j.1))
+    close_done _ _ _ _ (omega arith) (c.loop-k.invariant _ (columns_closed _ _ _ _ j.0 (search rules) j.1))

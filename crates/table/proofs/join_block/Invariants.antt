@@ -1,11 +1,8 @@
--- `table::join_block` meets its contract. The loop's invariant: the first `i` words of the block are joined, and the
+-- `table::join_block` meets its contract. The loop's invariant: the words of the block below `x` are joined, and the
 -- others are as before.
-use Prim.Native.Nat.{◌-◌}
-use Rattle.table.proofs.Joining.{InBlock}
+use Rattle.filled.specs.Filled.{Filled}
+use Rattle.table.specs.Words.{word, with_further}
 use Rattle.table.proofs.join_block.Given as goal
 
-abbrev pub invariant-loop-i : goal.invariant-loop-i
-invariant-loop-i l = InBlock l.start l.column l.i l.initial.words l.words
-
-abbrev pub decreases-loop-i : goal.decreases-loop-i
-decreases-loop-i l = l.column - l.i
+abbrev pub invariant-loop-x : goal.invariant-loop-x
+invariant-loop-x l = Filled l.start l.x (with_further l.column (word l.initial.words)) l.initial.words l.words

@@ -1,6 +1,5 @@
 -- `table::minimal_rights` meets its contract. The loop's invariant: `rights` are those read for the members of `x`
 -- that are passed.
-use Prim.Native.Nat.{◌-◌}
 use Rattle.table.proofs.Reading.{Reading}
 use Rattle.table.proofs.minimal_rights.Given as goal
 

@@ -8,6 +8,6 @@ pub returns-then-k-n : goal.returns-then-k-n
 unfolding right_at
 returns-then-k-n c = is_if_eq _ c.if-k-n.true refl
 
-pub returns : goal.returns
+pub returns-else-k-n : goal.returns-else-k-n
 unfolding right_at
-returns c = is_if_ne _ c.if-k-n.false refl
+returns-else-k-n c = is_if_ne _ c.if-k-n.false refl

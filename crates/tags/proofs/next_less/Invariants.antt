@@ -1,11 +1,6 @@
 -- `tags::next_less` meets its contract: no tag has begun before.
-use Prim.Native.Nat.{◌-◌}
-use lib.ListN.{length}
 use Rattle.tags.specs.Next.{Passed}
 use Rattle.tags.proofs.next_less.Given as goal
 
 abbrev pub invariant-loop-i : goal.invariant-loop-i
 invariant-loop-i l = Passed l.s l.p l.i
-
-abbrev pub decreases-loop-i : goal.decreases-loop-i
-decreases-loop-i l = length l.s - l.i

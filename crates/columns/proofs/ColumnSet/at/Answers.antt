@@ -27,21 +27,6 @@ count_sets-requires c = (c.if-n-gt-COLUMN_BOUND.false, refl)
 pub loop-k-init : goal.loop-k-init
 loop-k-init c = (c.if-n-gt-COLUMN_BOUND.false, c.count_sets.ensures, passed_none _ _)
 
-pub overflow_cast-c-in-loop-k : goal.overflow_cast-c-in-loop-k
-overflow_cast-c-in-loop-k c = omega arith
-
-pub offset_bounds-rows-n : goal.offset_bounds-rows-n
-offset_bounds-rows-n c = omega arith
-
-pub offset_bounds-rows-k : goal.offset_bounds-rows-k
-offset_bounds-rows-k c = omega arith
-
-pub bounds-rows-n : goal.bounds-rows-n
-bounds-rows-n c = omega arith
-
-pub bounds-rows-k : goal.bounds-rows-k
-bounds-rows-k c = omega arith
-
 -- the number read is right
 number : (c : In-loop-k) → let n = c.args.n in
     let k = c.loop-k.k in
@@ -59,26 +44,20 @@ pub returns-then-left-c : goal.returns-then-left-c
 unfolding at_of
 returns-then-left-c c =
     let l = c.loop-k.invariant in
-    let h = c.loop-k-test.true in
     is_if_le _ l.0
     (ap (λ (x : ℕ). Some (set_of x)) c.of_size_at.ensures
     ∙ sym (passed_found _ _ _ _ (omega arith)
     (omega (arith, c.if-left-c.true, number c.before.before.before.before)) l.2))
 
-pub overflow_add-k : goal.overflow_add-k
-overflow_add-k c = omega arith
-
-pub loop-k-smaller : goal.loop-k-smaller
-loop-k-smaller c = omega arith
-
 pub loop-k-preserved : goal.loop-k-preserved
 loop-k-preserved c =
     let l = c.loop-k.invariant in
-    let h = c.loop-k-test.true in
-    (l.0, l.1, passed_more _ _ _ _ _ (omega arith) (number c.before.before.before) c.if-left-c.false l.2)
+    (l.0, l.1, passed_more _ _ _ _ _ c.loop-k-test.true (number c.before.before.before.before) c.if-left-c.false l.2)
 
-pub returns : goal.returns
+pub returns-else-left-c : goal.returns-else-left-c
 unfolding at_of
-returns c =
-    let l = c.loop-k in
-    is_if_le _ l.invariant.0 (sym (passed_all _ _ _ _ c.loop-k-test.false l.invariant.2))
+returns-else-left-c c =
+    let l = c.loop-k.invariant in
+    is_if_le _ l.0
+    (sym (passed_all _ _ _ _ (omega arith)
+    (passed_more _ _ _ _ _ c.loop-k-test.true (number c.before.before.before) c.if-left-c.false l.2)))

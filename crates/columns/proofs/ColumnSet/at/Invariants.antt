@@ -8,6 +8,3 @@ use Rattle.columns.proofs.ColumnSet.at.Given as goal
 
 abbrev pub invariant-loop-k : goal.invariant-loop-k
 invariant-loop-k l = (l.n ≤ column_bound) × CountsUpTo l.n l.rows × SizesPassed l.n l.index l.k l.left
-
-abbrev pub decreases-loop-k : goal.decreases-loop-k
-decreases-loop-k l = suc l.n - l.k
