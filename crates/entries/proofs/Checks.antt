@@ -4,6 +4,7 @@ use Prim.Native.Nat.{ℕ, zero, suc, ◌+◌, ◌-◌, ◌*◌, ◌≤◌, ◌<�
 use mathlib.Core.Path.{◌≡◌, refl, sym, ap, ◌∙◌}
 use mathlib.Core.List.{List, [], ◌∷◌}
 use mathlib.Core.Bool.{Bool, true, false, not}
+use lib.ListN.{length, take, drop}
 use native.Mathlib.Numerals.{sub-one}
 use native.Mathlib.Omega.{arith}
 use Rattle.std.specs.Prelude.{Option, Some, None, MatchOption}
@@ -18,6 +19,7 @@ use Rattle.model.specs.Entries.{entry_bytes, entry_at, entries_from, entry_code,
 use Rattle.model.specs.declared.Entry.{Entry}
 use Rattle.model.specs.declared.Refusal.TheVariants.{BadEntry}
 use Rattle.entries.specs.Verdict.{bad_unless, code_after, codes_after}
+use Rattle.entries.proofs.OneEntry.{entry_cut}
 use Rattle.model.proofs.Grounds.{or_else_next, or_else_assoc, is_this, is_next}
 
 -- 15 is a ground
@@ -83,13 +85,14 @@ unfolding entries_from
 from_step file zero i h = absurd (omega arith)
 from_step file (suc n) i h = simp sub-one
 
-pub left_from : (file : List ℕ) (n p i : ℕ) {e : Entry} → i < n → e ≡ entry_at file (p + entry_bytes * i)
+pub left_from : (file : List ℕ) (n p i : ℕ) {e : Entry} → i < n → p + entry_bytes * n ≤ length file
+    → e ≡ entry_at (take (p + entry_bytes * i + entry_bytes - (p + entry_bytes * i)) (drop (p + entry_bytes * i) file)) 0
     → entries_from file (n - i) (p + entry_bytes * i)
     ≡ e ∷ entries_from file (n - (i + 1)) (p + entry_bytes * (i + 1))
-left_from file n p i h q =
+left_from file n p i h l q =
     let m : n - i - 1 ≡ n - (i + 1) = omega arith in
     let r : p + entry_bytes * i + entry_bytes ≡ p + entry_bytes * (i + 1) = omega arith in
-    rw (from_step file (n - i) (p + entry_bytes * i) (omega arith), m, r, q) refl
+    rw (from_step file (n - i) (p + entry_bytes * i) (omega arith), m, r, q, entry_cut file (p + entry_bytes * i) (omega arith)) refl
 
 pub none_from : (file : List ℕ) (n p i : ℕ) → n ≤ i → entries_from file (n - i) p ≡ []
 unfolding entries_from

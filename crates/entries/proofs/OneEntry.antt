@@ -1,11 +1,11 @@
 -- One entry as bytes, by the bytes' layout: how many it has, that it is read back behind any bytes, and that an entry
 -- read, written, is the bytes that stand there. The laws on lists of entries cite these and know no layout.
-use Prim.Native.Nat.{ℕ, ◌+◌, ◌^◌, ◌≤◌, ◌<◌}
+use Prim.Native.Nat.{ℕ, ◌+◌, ◌-◌, ◌^◌, ◌≤◌, ◌<◌}
 use mathlib.Core.Path.{◌≡◌, refl, sym, ◌∙◌}
 use mathlib.Core.List.{List, [], ◌∷◌, ◌++◌}
 use native.Mathlib.Nat.{add_assoc}
 use native.Mathlib.Omega.{arith}
-use lib.ListN.{length, drop, get_or-eq_default}
+use lib.ListN.{length, take, drop, get_or-eq_default}
 use Rattle.file.proofs.Past.{u16_past}
 use Rattle.file.proofs.Numbers.{byte_after, u16_after, u16_of_bytes2, bytes2_of_u16, drop_four}
 use Rattle.columns.specs.Bound.{column_bound}
@@ -46,3 +46,10 @@ pub entry_forth : (file : List ℕ) (i : ℕ) → Bytes file → i + entry_bytes
     → bytes_of (entry_at file i) ++ drop (i + entry_bytes) file ≡ drop i file
 unfolding bytes_of entry_at
 entry_forth file i s h = rw (bytes2_of_u16 file (i + 2) s, add_assoc i 2 1) (sym (drop_four file i h))
+
+-- an entry's own bytes, cut out
+pub entry_cut : (file : List ℕ) (i : ℕ) → i + entry_bytes ≤ length file
+    → entry_at (take (i + entry_bytes - i) (drop i file)) 0 ≡ entry_at file i
+unfolding entry_at u16_at
+entry_cut file i h =
+    let n : i + entry_bytes - i ≡ entry_bytes = omega arith in rw (n, drop_four file i h, add_assoc i 2 1) refl

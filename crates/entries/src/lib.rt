@@ -73,7 +73,8 @@ pub fn entries_ok(file: &[u8], count: u32, from: usize) -> bool
 {
     let mut before = None;
     for i in 0..count {
-        let e = entry_from(file, from + ENTRY_BYTES * (i as usize));
+        let at = from + ENTRY_BYTES * (i as usize);
+        let e = entry_from(&file[at..at + ENTRY_BYTES], 0);
         if !fine_after(before, e) {
             return false;
         }

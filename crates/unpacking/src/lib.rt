@@ -5,7 +5,7 @@
 // `packed`.
 #![tactic(auto)]
 
-ghost use Rattle.std.specs.Prelude.{◌+◌, ◌-◌, ◌*◌, ◌<◌, ◌^◌, ◌≡◌, length};
+ghost use Rattle.std.specs.Prelude.{◌+◌, ◌-◌, ◌*◌, ◌≤◌, ◌≡◌, length};
 ghost use Rattle.model.specs.Calls.{run_after};
 ghost use Rattle.model.specs.Entries.{entry_bytes};
 ghost use Rattle.model.specs.Reading.{count_in, distance_in, read_at};
@@ -88,7 +88,7 @@ pub fn front_by(file: &[u8], answer: Result<Opened, Refusal>) -> &[u8]
 // answers how many.
 #[tactic(auto, unfolding(model::specs::Entries::entries_from))]
 pub fn read_part(file: &[u8], k: usize, first: usize, from: usize, run: &mut [Entry]) -> usize
-    requires { first + entry_bytes * k < 2 ^ 64 }
+    requires { first + entry_bytes * k ≤ length file.now }
     ensures count { result ≡ length (part_from file.now k first from (length run.old)) }
     ensures run { run.new ≡ run_after 0 (part_from file.now k first from (length run.old)) run.old }
 {
@@ -97,7 +97,8 @@ pub fn read_part(file: &[u8], k: usize, first: usize, from: usize, run: &mut [En
     let rest = k - skipped;
     let count = rest.min(run.len());
     for (n, slot) in run[..count].iter_mut().enumerate() {
-        *slot = entry_from(file, at + ENTRY_BYTES * n);
+        let here = at + ENTRY_BYTES * n;
+        *slot = entry_from(&file[here..here + ENTRY_BYTES], 0);
     }
     count
 }

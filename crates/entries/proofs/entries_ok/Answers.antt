@@ -9,12 +9,12 @@ pub returns-then-not-fine_after : goal.returns-then-not-fine_after
 returns-then-not-fine_after c =
     next_bad c.loop-i.before _ _ c.if-not-fine_after.ensures
     ∙ sym (c.loop-i.invariant
-    ∙ ap (codes_after c.loop-i.before) (left_from _ _ _ _ c.loop-i-test.true c.entry_from-e.ensures))
+    ∙ ap (codes_after c.loop-i.before) (left_from _ _ _ _ c.loop-i-test.true c.requires c.entry_from-e.ensures))
 
 pub loop-i-preserved : goal.loop-i-preserved
 loop-i-preserved c =
     c.loop-i.invariant
-    ∙ ap (codes_after c.loop-i.before) (left_from _ _ _ _ c.loop-i-test.true c.entry_from-e.ensures)
+    ∙ ap (codes_after c.loop-i.before) (left_from _ _ _ _ c.loop-i-test.true c.requires c.entry_from-e.ensures)
     ∙ next_fine c.loop-i.before _ _ c.if-not-fine_after.ensures
 
 pub returns : goal.returns
