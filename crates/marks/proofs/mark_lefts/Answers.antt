@@ -2,7 +2,7 @@
 use native.Mathlib.Omega.{arith}
 use borrow.Author.Rules.{rules}
 use Rattle.evidence.proofs.Lists.{each_entry, some_entry}
-use Rattle.marks.specs.Listed.{LeftAt, SetAt, NarrowLeft, NarrowSet}
+use Rattle.marks.specs.Listed.{LeftAt, NarrowLeft}
 use Rattle.marks.proofs.Marking.{marking_begun, marking_more, marking_done}
 use Rattle.planes.proofs.Marks.{room_kept}
 use Rattle.marks.proofs.mark_lefts.Goals as goal

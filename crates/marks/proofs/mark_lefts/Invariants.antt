@@ -1,7 +1,6 @@
 -- `marks::mark_lefts` meets its contract: what those passed want is marked.
-use Rattle.evidence.specs.Run.{record_of}
 use Rattle.marks.specs.Run.{entry_of}
-use Rattle.marks.specs.Listed.{LeftAt, SetAt}
+use Rattle.marks.specs.Listed.{LeftAt}
 use Rattle.marks.proofs.Marking.{Marking}
 use Rattle.marks.proofs.mark_lefts.Given as goal
 

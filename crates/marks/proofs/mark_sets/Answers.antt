@@ -2,7 +2,7 @@
 use native.Mathlib.Omega.{arith}
 use borrow.Author.Rules.{rules}
 use Rattle.evidence.proofs.Lists.{each_record, some_record}
-use Rattle.marks.specs.Listed.{LeftAt, SetAt, NarrowLeft, NarrowSet}
+use Rattle.marks.specs.Listed.{SetAt, NarrowSet}
 use Rattle.marks.proofs.Marking.{marking_begun, marking_more, marking_done}
 use Rattle.planes.proofs.Marks.{room_kept}
 use Rattle.marks.proofs.mark_sets.Goals as goal
