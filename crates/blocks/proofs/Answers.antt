@@ -20,7 +20,7 @@ use Rattle.planes.specs.Plane.{Sown}
 use Rattle.planes.proofs.Plane.{seeds_filled_plane, narrow_is}
 use Rattle.planes.proofs.Seeds.{sown_kept}
 use Rattle.planes.proofs.Backed.{two_planes}
-use Rattle.blocks.specs.Cache.{pairs_at, left_at, asked_minimal, Room, Lefts, AddedBelow, PairsBelow}
+use Rattle.blocks.specs.Cache.{pairs_at, left_at, asked_minimal, Lefts, AddedBelow, PairsBelow}
 use Rattle.blocks.specs.Cache.{Answered, Block}
 use Rattle.blocks.proofs.Pairs.{added_le}
 
@@ -41,22 +41,7 @@ not_asked : (v : View) (own a x : ℕ) → bit own a ≡ 0 → false ≡ asked_m
 not_asked v own a x e =
     ap (λ (b : Bool). b && minimal v x (right_at v.members a)) (sym (ne_eqb (bit own a) 1 (λ i. omega arith)))
 
--- right a is not asked for, or its plane is filled and it is added
-pub answered_none : (n own a count : ℕ) (ws : List ℕ) → bit own a ≡ 0 → PairsBelow n a count ws
-    → Answered n own a count ws ws
-answered_none n own a count ws e p =
-    record {
-      kept = λ i l. refl;
-      lefts = λ j. refl;
-      below = λ j l. omega (arith, p.rights j l, two-pow-succ a);
-      rights = λ v s j l.
-          nothing (word ws (suc (left_at n j))) (asked_minimal v own (word ws (left_at n j)) a)
-          (not_asked v own a (word ws (left_at n j)) e);
-    }
-  where
-    nothing : (w : ℕ) (t : Bool) → false ≡ t → w ≡ w + pick t (2 ^ a) 0
-    nothing w t i = subst (λ (b : Bool). w ≡ w + pick b (2 ^ a) 0) i (omega arith)
-
+-- the plane of right a is filled, and it is added
 pub answered_some : (n own a count : ℕ) (plane before after : List ℕ) → n ≤ column_bound → a ≤ n → bit own a ≡ 1
     → PairsBelow n a count before → PlaneFrom n a before plane → AddedBelow n a count plane before after
     → Answered n own a count before after
@@ -102,14 +87,6 @@ answering_begun n own first count before ws l =
       below = λ j h. omega (arith, l.none j h);
       rights = λ v s j h. l.none j h;
     }
-
-pub answering_pairs : (n own first a count : ℕ) (start before after : List ℕ) → Lefts n first count start before
-    → AnsweredBelow n own a count before after → PairsBelow n a count after
-answering_pairs n own first a count start before after l b =
-    record { lefts = λ j h. omega (arith, b.lefts j, l.lefts j h); rights = b.below }
-
-pub room_same : (n count m k : ℕ) → m ≡ k → Room n k count → Room n m count
-room_same n count m k e = subst (λ (z : ℕ). Room n z count) (sym e)
 
 one_more : (f : ℕ → Bool) (a : ℕ) → set_below a f + pick (f a) (2 ^ a) 0 ≡ set_below (a + 1) f
 unfolding set_below

@@ -1,15 +1,12 @@
 -- The rights of a left side from the cursor's pair, or from a new block: they are the minimal ones, and the words stay
 -- ready.
-use Prim.Native.Nat.{ℕ, suc, ◌+◌, ◌*◌, ◌^◌, ◌≤◌, ◌<◌}
-use mathlib.Core.Path.{◌≡◌, sym, ap, subst, ◌∙◌}
-use mathlib.Core.Bool.{true}
+use Prim.Native.Nat.{ℕ, suc, ◌+◌, ◌*◌, ◌≤◌, ◌<◌}
+use mathlib.Core.Path.{◌≡◌, sym, ap, ◌∙◌}
 use mathlib.Core.List.{List}
 use native.Mathlib.Omega.{arith}
-use lib.Dec.{eqb}
 use lib.ListN.{length, set, length-set}
 use lib.Seq.{get_or-set_same, get_or-set_other}
 use Rattle.model.specs.View.{View}
-use Rattle.model.proofs.Truth.{true_is, eqb_is}
 use Rattle.table.specs.Words.{word}
 use Rattle.table.specs.Broken.{minimal_mask}
 use Rattle.planes.specs.Plane.{Sown, BackedBehind}
@@ -24,30 +21,6 @@ roomy_begun n ws h e = record { one = h; count = omega arith }
 pub ready_begun : (v : View) (n own : ℕ) (ws : List ℕ) → Sown v n ws → BackedBehind v n ws
     → word ws (cursor_at n + 1) ≡ 0 → Stocked v n own ws
 ready_begun v n own ws s b e = record { sown = s; backed = b; cached = λ j l. absurd (omega arith) }
-
--- the cursor's pair is inside, and its left side is compared
-pub cursor_inside : (n m : ℕ) (ws : List ℕ) → m ≡ cursor_at n → Roomy n ws → word ws m < word ws (m + 1)
-    → m + 2 + 2 * word ws m + 2 ≤ length ws
-cursor_inside n m ws is r l = let e = ap (λ (k : ℕ). word ws (k + 1)) is in omega (arith, r.count)
-
-pub at_cursor_is : (n x m : ℕ) (ws : List ℕ) → m ≡ cursor_at n → word ws m < word ws (m + 1)
-    → eqb (word ws (m + 2 + 2 * word ws m)) x ≡ true → AtCursor n x ws
-at_cursor_is n x m ws is l t =
-    record {
-      some = subst (λ (k : ℕ). word ws k < word ws (k + 1)) is l;
-      left =
-          (eqb_is (word ws (left_at n (word ws (cursor_at n)))) x).0
-          (true_is (subst (λ (k : ℕ). eqb (word ws (k + 2 + 2 * word ws k)) x ≡ true) is t));
-    }
-
-pub at_cursor_inside : (n x m : ℕ) (ws : List ℕ) → m ≡ cursor_at n → Roomy n ws → AtCursor n x ws
-    → m + 2 + 2 * word ws m + 2 ≤ length ws
-at_cursor_inside n x m ws is r a =
-    cursor_inside n m ws is r (subst (λ (k : ℕ). word ws k < word ws (k + 1)) (sym is) a.some)
-
-pub at_cursor_fits : (n x m : ℕ) (ws : List ℕ) → m ≡ cursor_at n → AtCursor n x ws → word ws (cursor_at n + 1) < 2 ^ 32
-    → word ws m + 1 < 2 ^ 32
-at_cursor_fits n x m ws is a h = let e = ap (word ws) is in omega (arith, a.some)
 
 -- the same pairs
 cached_kept : (v : View) (own from m k : ℕ) (before after : List ℕ) → k ≡ m

@@ -1,7 +1,6 @@
 -- The pairs behind the seeds: writing the left sides of a block, and adding a right to each by its plane.
-use Prim.Native.Nat.{ℕ, suc, ◌+◌, ◌-◌, ◌/◌, ◌^◌, ◌≤◌, ◌<◌}
-use mathlib.Core.Path.{◌≡◌, refl, sym, ap, subst, ◌∙◌}
-use mathlib.Core.Logic.{◌↔◌}
+use Prim.Native.Nat.{ℕ, suc, ◌+◌, ◌/◌, ◌^◌, ◌≤◌, ◌<◌}
+use mathlib.Core.Path.{◌≡◌, sym, ap, subst, ◌∙◌}
 use mathlib.Core.Bool.{Bool, true, false}
 use mathlib.Core.List.{List, [], ◌∷◌, Memᴰ}
 use native.Mathlib.Decide.{ℕ_discrete}
@@ -9,40 +8,39 @@ use native.Mathlib.Omega.{arith}
 use lib.ListN.{length, set, length-set}
 use lib.Pow.{pow_mono}
 use lib.Seq.{get_or-set_same, get_or-set_other}
+use Rattle.std.specs.Prelude.{Some, None}
 use Rattle.columns.specs.Bound.{column_bound}
 use Rattle.columns.specs.Order.{in_order, first, after, next_of}
 use Rattle.columns.specs.Set.{set_of}
 use Rattle.columns.specs.Test.{pick}
 use Rattle.columns.specs.declared.ColumnSet.{ColumnSet}
-use Rattle.columns.specs.declared.SetOrNone.TheVariants.{Set, Nothing}
 use Rattle.columns.proofs.Order.{mem_in_order}
 use Rattle.columns.proofs.Test.{if_eq_yes, if_eq_no, if_le_yes}
-use Rattle.table.specs.Words.{word, Narrow}
-use Rattle.planes.specs.Bits.{plane_bit}
+use Rattle.table.specs.Words.{word}
 use Rattle.planes.specs.Plane.{seed_words}
 use Rattle.planes.proofs.Bits.{power_words}
-use Rattle.blocks.specs.Cache.{cursor_at, pairs_at, left_at, Room, Lefts, Added, AddedBelow, PairsBelow}
+use Rattle.blocks.specs.Cache.{pairs_at, left_at, Added, AddedBelow, PairsBelow}
 
 -- the next left side is one of n columns
-first_mem : (y : ℕ) (ys : List ℕ) → first ys ≡ Set (set_of y) → Memᴰ y ys
+first_mem : (y : ℕ) (ys : List ℕ) → first ys ≡ Some (set_of y) → Memᴰ y ys
 unfolding first
 first_mem y [] e = let z : ◌≡◌ {A = ℕ} 0 1 = cc in absurd (omega arith)
 first_mem y (z ∷ ys) e =
     let s : set_of z ≡ set_of y = cc in
     Memᴰ.head (sym (ap (λ (c : ColumnSet). c.bits) s))
 
-after_mem : (x y : ℕ) (ys : List ℕ) → after x ys ≡ Set (set_of y) → Memᴰ y ys
+after_mem : (x y : ℕ) (ys : List ℕ) → after x ys ≡ Some (set_of y) → Memᴰ y ys
 unfolding after
 after_mem x y [] e = let z : ◌≡◌ {A = ℕ} 0 1 = cc in absurd (omega arith)
 after_mem x y (z ∷ ys) e = at (after_mem x y ys) (ℕ_discrete x z)
   where
-    at : (after x ys ≡ Set (set_of y) → Memᴰ y ys) → Dec (x ≡ z) → Memᴰ y (z ∷ ys)
+    at : (after x ys ≡ Some (set_of y) → Memᴰ y ys) → Dec (x ≡ z) → Memᴰ y (z ∷ ys)
     at later (yes i) = Memᴰ.tail (first_mem y ys (sym (if_eq_yes (after x ys) i) ∙ e))
     at later (no n) = Memᴰ.tail (later (sym (if_eq_no (first ys) n) ∙ e))
 
-pub next_below : (n x y : ℕ) → n ≤ column_bound → next_of n x ≡ Set (set_of y) → y < 2 ^ n
+pub next_below : (n x y : ℕ) → n ≤ column_bound → next_of n x ≡ Some (set_of y) → y < 2 ^ n
 unfolding next_of
-next_below n x y b e = mem_in_order n y (after_mem x y (in_order n) (sym (if_le_yes Nothing b) ∙ e))
+next_below n x y b e = mem_in_order n y (after_mem x y (in_order n) (sym (if_le_yes None b) ∙ e))
 
 -- j left sides are written, and x is the next
 pub record LeftsBelow (n first x j : ℕ) (before after : List ℕ) : Type 0 where
@@ -54,19 +52,8 @@ pub record LeftsBelow (n first x j : ℕ) (before after : List ℕ) : Type 0 whe
   pub lefts : (i : ℕ) → i < j → word after (left_at n i) < 2 ^ n
   pub none : (i : ℕ) → i < j → word after (suc (left_at n i)) ≡ 0
 
-pub lefts_begun : (n first : ℕ) (ws : List ℕ) → first < 2 ^ n → LeftsBelow n first first 0 ws ws
-lefts_begun n first ws h =
-    record {
-      same_length = refl;
-      next = h;
-      begun = λ e. refl;
-      kept = λ i l. refl;
-      first_left = λ l. absurd (omega arith);
-      lefts = λ i l. absurd (omega arith);
-      none = λ i l. absurd (omega arith);
-    }
-
-module _ (n first x j at y : ℕ) (before after : List ℕ) (is : at ≡ left_at n j) (fits : left_at n (suc j) ≤ length before)
+module _ (n first x j at y : ℕ) (before after : List ℕ) (is : at ≡ left_at n j)
+    (fits : left_at n (suc j) ≤ length before)
     (below : y < 2 ^ n) (l : LeftsBelow n first x j before after) where
   abbrev new : List ℕ
   new = set (set after at x) (at + 1) 0
@@ -111,46 +98,13 @@ module _ (n first x j at y : ℕ) (before after : List ℕ) (is : at ≡ left_at
         none = λ i h. none_of i h (ℕ_discrete i j);
       }
 
-pub lefts_done : (n first x j pairs : ℕ) (before after : List ℕ) → 0 < j → j ≤ pairs → Room n (length before) pairs
-    → LeftsBelow n first x j before after → Lefts n first j before after
-lefts_done n first x j pairs before after h le room l =
-    let f = room.few in
-    let g = room.fits in
-    record {
-      room = record { some = h; few = omega arith; fits = omega arith };
-      kept = l.kept;
-      first_left = l.first_left h;
-      lefts = l.lefts;
-      none = l.none;
-    }
-
--- what a right adds
-pub added_yes : (plane : List ℕ) (x a p : ℕ) (t : Bool) → t ≡ true → p ≡ 2 ^ a
-    → (t ≡ true) ↔ Narrow (plane_bit plane) x a
-    → Added plane x a p
-added_yes plane x a p t e i f =
-    record { test = t; narrow = f; value = i ∙ ap (λ (b : Bool). pick b (2 ^ a) 0) (sym e) }
-
-pub added_no : (plane : List ℕ) (x a : ℕ) (t : Bool) → t ≡ false → (t ≡ true) ↔ Narrow (plane_bit plane) x a
-    → Added plane x a 0
-added_no plane x a t e f = record { test = t; narrow = f; value = ap (λ (b : Bool). pick b (2 ^ a) 0) (sym e) }
-
 pick_le : (t : Bool) (p : ℕ) → pick t p 0 ≤ p
 pick_le true p = omega arith
 pick_le false p = omega arith
 
+-- what a right adds
 pub added_le : (plane : List ℕ) (x a r : ℕ) → Added plane x a r → r ≤ 2 ^ a
 added_le plane x a r d = omega (arith, d.value, pick_le d.test (2 ^ a))
-
--- a right is added to no pair, and to one more
-pub adding_begun : (n a : ℕ) (plane ws : List ℕ) → AddedBelow n a 0 plane ws ws
-adding_begun n a plane ws =
-    record {
-      kept = λ i l. refl;
-      lefts = λ j. refl;
-      rest = λ j l. refl;
-      rights = λ j l. absurd (omega arith);
-    }
 
 module _ (n a j at r : ℕ) (plane before after : List ℕ) (is : at ≡ left_at n j) (inside : at + 1 < length after)
     (d : Added plane (word after at) a r) (b : AddedBelow n a j plane before after) where
@@ -189,12 +143,6 @@ module _ (n a j at r : ℕ) (plane before after : List ℕ) (is : at ≡ left_at
         rights = λ i l. rights_of i l (ℕ_discrete i j);
       }
 
-pub adding_done : (n a j count : ℕ) (plane before after : List ℕ) → j ≤ count → count ≤ j
-    → AddedBelow n a j plane before after → AddedBelow n a count plane before after
-adding_done n a j count plane before after l h =
-    let e : j ≡ count = omega arith in
-    subst (λ (k : ℕ). AddedBelow n a k plane before after) e
-
 -- the plane has a bit for the left side of pair j, and the sum of its rights fits
 pub adding_index : (n a j at count : ℕ) (plane before after : List ℕ) → 5 ≤ n → at ≡ left_at n j → j < count
     → seed_words n ≤ length plane → PairsBelow n a count before → AddedBelow n a j plane before after
@@ -204,7 +152,8 @@ adding_index n a j at count plane before after h is l enough p b =
     let s = p.lefts j l in
     omega (arith, power_words n h)
 
-pub adding_fits : (n a j at count x r : ℕ) (plane before after : List ℕ) → a ≤ column_bound → at ≡ left_at n j → j < count
+pub adding_fits : (n a j at count x r : ℕ) (plane before after : List ℕ) → a ≤ column_bound → at ≡ left_at n j
+    → j < count
     → PairsBelow n a count before → AddedBelow n a j plane before after → Added plane x a r
     → word after (at + 1) + r < 2 ^ 32
 adding_fits n a j at count x r plane before after h is l p b d =
@@ -212,10 +161,3 @@ adding_fits n a j at count x r plane before after h is l p b d =
     let e : word after (at + 1) ≡ word before (suc (left_at n j)) = ap (word after) i ∙ b.rest j (omega arith) in
     let s = p.rights j l in
     omega (arith, added_le plane x a r d, pow_mono {i = a} {j = 16} h)
-
--- how many pairs there are, and where they begin, in numbers
-pub cursor_at_small : (n : ℕ) → n ≤ column_bound → cursor_at n ≤ 4096
-cursor_at_small n h = pow_mono {i = n - 4} {j = 12} (omega arith)
-
-pub room_small : (n length count : ℕ) → n ≤ column_bound → Room n length count → count ≤ 65536
-room_small n length count h r = omega (arith, r.few, pow_mono {i = n} {j = 16} h)

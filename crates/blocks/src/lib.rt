@@ -12,7 +12,7 @@ ghost use Rattle.blocks.specs.Cache.{pairs_at, Roomy, Room, Lefts, Added, AddedB
 ghost use Rattle.blocks.specs.Cache.{Answered, Block, AtCursor, RightsFrom};
 
 use bits::power;
-use columns::{ColumnSet, SetOrNone};
+use columns::ColumnSet;
 use planes::PLANE;
 
 // How many pairs a block has: as many as fit, and no more than there are left sides.
@@ -22,10 +22,7 @@ fn room(length: usize, n: u32) -> u32
 {
     let all = power(n);
     let pairs = (length - (power(n - 4) as usize + 2)) / 2;
-    if all as usize <= pairs {
-        return all;
-    }
-    pairs as u32
+    pairs.min(all as usize) as u32
 }
 
 // Writes the left sides of a block from the first on, in listing order, each with no rights. It returns how many.
@@ -36,18 +33,16 @@ fn write_lefts(words: &mut [u32], n: u32, first: u32) -> u32
     let pairs = room(words.len(), n);
     let from = power(n - 4) + 2;
     let mut x = first;
-    let mut j = 0;
-    while j < pairs {
+    for j in 0..pairs {
         let at = (from + 2 * j) as usize;
         words[at] = x;
         words[at + 1] = 0;
-        j += 1;
         match (ColumnSet { bits: x }).next(n) {
-            SetOrNone::Set(y) => x = y.bits,
-            SetOrNone::Nothing => return j,
+            Some(y) => x = y.bits,
+            None => return j + 1,
         }
     }
-    j
+    pairs
 }
 
 // What right a adds to the rights of x, by its plane: its bit where it is minimal.
@@ -56,9 +51,10 @@ fn added(plane: &[u32], x: u32, a: u32) -> u32
     ensures { Added plane.now x a result }
 {
     if planes::is_minimal(plane, x, a) {
-        return power(a);
+        power(a)
+    } else {
+        0
     }
-    0
 }
 
 // Adds right a to each pair, by its plane.
@@ -68,12 +64,9 @@ fn add_right(words: &mut [u32], n: u32, count: u32, a: u32, plane: &[u32])
     ensures { AddedBelow n a count plane.now words.old words.new }
 {
     let from = power(n - 4) + 2;
-    let mut j = 0;
-    while j < count {
+    for j in 0..count {
         let at = (from + 2 * j) as usize;
-        let right = added(plane, words[at], a);
-        words[at + 1] = words[at + 1] + right;
-        j += 1;
+        words[at + 1] += added(plane, words[at], a);
     }
 }
 
@@ -97,10 +90,8 @@ fn answer_block(words: &mut [u32], n: u32, own: u32, first: u32) -> u32
     ensures { Block n own first result words.old words.new }
 {
     let count = write_lefts(words, n, first);
-    let mut a = 0;
-    while a <= n {
+    for a in 0..n + 1 {
         answer_right(words, n, own, count, a);
-        a += 1;
     }
     count
 }

@@ -4,10 +4,10 @@
 // numbers.
 #![tactic(auto)]
 
-ghost use Rattle.std.specs.Prelude.{◌+◌, ◌≤◌, ◌<◌, ◌≡◌, true, length, IfSome};
+ghost use Rattle.std.specs.Prelude.{◌+◌, ◌≤◌, ◌<◌, ◌≡◌, true, IfSome};
 ghost use Rattle.columns.specs.Bound.{column_bound};
 ghost use Rattle.model.specs.Bounds.{row_bound};
-ghost use Rattle.classes.specs.Classes.{bytes_size, Numbering, OnlyMember, SameClasses, Numbered};
+ghost use Rattle.classes.specs.Classes.{Numbering, OnlyMember, SameClasses, Numbered};
 
 use bits::power;
 use columns::COLUMN_BOUND;
@@ -60,7 +60,7 @@ fn number_row(
 
 // Numbers the rows on member k, and answers whether all of them are numbered.
 fn number_member(keys: &[u16; SIZE], k: usize, end: usize, bytes: &mut [u8; BYTES]) -> bool
-    requires { (k < column_bound) × (end ≤ row_bound) × (length bytes.old ≡ bytes_size) }
+    requires { (k < column_bound) × (end ≤ row_bound) }
     ensures only_member { OnlyMember k bytes.old bytes.new }
     ensures member_numbered { result ≡ true → SameClasses keys.now k end bytes.new }
 {
@@ -77,7 +77,7 @@ fn number_member(keys: &[u16; SIZE], k: usize, end: usize, bytes: &mut [u8; BYTE
 // Numbers the rows on each of the first n members that has few enough classes, and answers which these are. A member
 // that it left out would only cost time.
 pub fn number(keys: &[u16; SIZE], n: u32, end: usize, bytes: &mut [u8; BYTES]) -> u32
-    requires { (n ≤ column_bound) × (end ≤ row_bound) × (length bytes.old ≡ bytes_size) }
+    requires { (n ≤ column_bound) × (end ≤ row_bound) }
     ensures { Numbered keys.now n end result bytes.new }
 {
     let mut few = 0;

@@ -2,16 +2,16 @@
 use Prim.Native.Nat.{ℕ, zero, suc, ◌+◌, ◌-◌, ◌*◌, ◌/◌, ◌^◌, ◌≤◌, ◌<◌}
 use mathlib.Core.Path.{◌≡◌, refl, sym, ap, ap₂, subst, ◌∙◌}
 use mathlib.Core.Bool.{Bool, true, false, ◌&&◌}
-use mathlib.Core.List.{List}
+use mathlib.Core.List.{List, [], ◌∷◌}
 use native.Mathlib.Decide.{ℕ_discrete, dec_lt}
-use native.Mathlib.Nat.{add-zero, zero-add, one-mul, zero-mul, add_comm, mod-lt, mul-le-mul_right}
+use native.Mathlib.Nat.{add-zero, zero-add, one-mul, zero-mul, add_comm, mod-lt}
 use native.Mathlib.Omega.{arith}
 use borrow.Author.Tests.{lt-ltb, le-ltb, eq-eqb, ne_eqb}
 use lib.Bits.{bit_or, or_zero_r, or_shifted_r}
 use lib.Dec.{eqb, ltb}
 use lib.ListN.{length, set, length-set}
-use lib.Pow.{pow-lt}
 use lib.Seq.{get_or-set_same, get_or-set_other}
+use Rattle.std.specs.Prelude.{fold, get_or}
 use Rattle.columns.specs.Bound.{column_bound}
 use Rattle.columns.specs.Set.{bit, set_below}
 use Rattle.columns.specs.Test.{pick}
@@ -23,17 +23,13 @@ use Rattle.table.specs.Broken.{agree_set_of}
 use Rattle.table.proofs.Bits.{bit_with_same, bit_with_other, with_below}
 use Rattle.filled.proofs.Below.{below_more}
 use Rattle.leaders.specs.Keys.{key_at, key_view}
-use Rattle.classes.specs.Classes.{byte_stride, number_at, Numbered}
+use Rattle.classes.specs.Classes.{number_at, Numbered}
 use Rattle.lines.specs.declared.part.Comparand.{Comparand}
-use Rattle.lines.specs.declared.part.Eight.{Eight}
 use Rattle.lines.specs.Lines.{line_members, LineOf, same_number, part_at, numbered_at, joined_at, with_member, met}
 use Rattle.lines.specs.Lines.{met_at}
-use Rattle.lines.specs.Compares.{Compares, ComparesEight, InsideEight, added, eight_of}
+use Rattle.lines.specs.Compares.{Compares, ComparesEach, added}
 
 -- a line is written row by row
-pub line_begun : (f : ℕ → ℕ) (x : ℕ) (line : List ℕ) → length line ≡ row_bound → LineOf f x (x + 1) line
-line_begun f x line l = record { long = l; at = λ q h m. absurd (omega arith) }
-
 pub line_more : {f : ℕ → ℕ} {x q : ℕ} {line : List ℕ} (s : ℕ) → q < row_bound → s ≡ f q → LineOf f x q line
     → LineOf f x (q + 1) (set line q s)
 line_more {f} {x} {q} {line} s l e h = record {
@@ -44,9 +40,6 @@ line_more {f} {x} {q} {line} s l e h = record {
       (λ k. get_or-set_same line q s 0 (omega (arith, h.long)) ∙ e) j m k;
 }
 
-pub line_done : {f : ℕ → ℕ} {x q end : ℕ} {line : List ℕ} → end ≤ q → LineOf f x q line → LineOf f x end line
-line_done l h = record { long = h.long; at = λ j k m. h.at j k (omega arith) }
-
 -- the same numbers by another function
 pub line_as : {f : ℕ → ℕ} {x end : ℕ} {line : List ℕ} (g : ℕ → ℕ) → ((q : ℕ) → x < q → q < end → f q ≡ g q)
     → LineOf f x end line → LineOf g x end line
@@ -56,16 +49,9 @@ line_as g e h = record { long = h.long; at = λ q k l. h.at q k l ∙ e q k l }
 pub record Ahead (q end : ℕ) (before line : List ℕ) : Type 0 where
   pub as_was : (j : ℕ) → q ≤ j → j < end → word line j ≡ word before j
 
-pub ahead_all : (q end : ℕ) (line : List ℕ) → Ahead q end line line
-ahead_all q end line = record { as_was = λ j k m. refl }
-
-pub ahead_less : {q end : ℕ} {before line : List ℕ} (s : ℕ) → Ahead q end before line
-    → Ahead (q + 1) end before (set line q s)
-ahead_less {q} {end} {before} {line} s h =
-    record { as_was = λ j k m. get_or-set_other line q j s 0 (λ u. omega arith) ∙ h.as_was j (omega arith) m }
-
 -- a set with the next number joined to it, or not
-pub or_next : (f : ℕ → Bool) (k s r : ℕ) → s ≡ set_below k f → r ≡ pick (f k) (2 ^ k) 0 → bit_or s r ≡ set_below (suc k) f
+pub or_next : (f : ℕ → Bool) (k s r : ℕ) → s ≡ set_below k f → r ≡ pick (f k) (2 ^ k) 0
+    → bit_or s r ≡ set_below (suc k) f
 unfolding set_below
 or_next f k s r e g = ap₂ bit_or e g ∙ at (f k)
   where
@@ -74,41 +60,6 @@ or_next f k s r e g = ap₂ bit_or e g ∙ at (f k)
         ap (bit_or (set_below k f)) (sym (one-mul (2 ^ k))) ∙ or_shifted_r 1 k (set_below k f) (set_below_lt k f)
         ∙ add_comm (1 * 2 ^ k) (set_below k f) ∙ ap (λ (w : ℕ). set_below k f + w) (one-mul (2 ^ k))
     at false = or_zero_r (set_below k f) ∙ sym (add-zero (set_below k f))
-
-or_first : (f : ℕ → Bool) (r : ℕ) → r ≡ pick (f 0) (2 ^ 0) 0 → r ≡ set_below 1 f
-unfolding set_below
-or_first f r e = e ∙ sym (zero-add (pick (f 0) (2 ^ 0) 0))
-
--- what row x is compared by on a member
-pub compares_is : (bytes : List ℕ) (few x v j p : ℕ) → v + j < column_bound → p ≡ 2 ^ j
-    → Compares bytes few x v j
-    (record { at = (v + j) * byte_stride; own = number_at bytes (v + j) x; bit = bit few (v + j) * p })
-compares_is bytes few x v j p h e =
-    record { place = refl; inside = h; own = refl; bit = ap (λ (p : ℕ). bit few (v + j) * p) e }
-
-pub bit_fits : (few k j p : ℕ) → j < 8 → p ≡ 2 ^ j → bit few k * p < 256
-bit_fits few k j p h e = omega (arith, at (bit few k) (mod-lt (few / 2 ^ k) two_pos), pow-lt {i = j} {j = 8} h)
-  where
-    two_pos : 0 < 2
-    two_pos = omega arith
-
-    at : (b : ℕ) → b < 2 → b * p ≤ p
-    at zero l = omega arith
-    at (suc zero) l = omega arith
-    at (suc (suc b)) l = absurd (omega arith)
-
-pub eight_inside : {bytes : List ℕ} {few x v : ℕ} {e : Eight} → ComparesEight bytes few x v e → (q : ℕ) → q < row_bound
-    → InsideEight e q
-eight_inside by q l = record {
-  i0 = omega (arith, by.c0.place, by.c0.inside);
-  i1 = omega (arith, by.c1.place, by.c1.inside);
-  i2 = omega (arith, by.c2.place, by.c2.inside);
-  i3 = omega (arith, by.c3.place, by.c3.inside);
-  i4 = omega (arith, by.c4.place, by.c4.inside);
-  i5 = omega (arith, by.c5.place, by.c5.inside);
-  i6 = omega (arith, by.c6.place, by.c6.inside);
-  i7 = omega (arith, by.c7.place, by.c7.inside);
-}
 
 -- what it adds is the bit of j, if the member is numbered and the numbers are the same
 both : (b : ℕ) → b < 2 → (e : Bool) (w : ℕ) → pick e (b * w) 0 ≡ pick (eqb b 1 && e) w 0
@@ -119,7 +70,7 @@ both (suc zero) l false w = refl
 both (suc (suc b)) l e w = absurd (omega arith)
 
 adds_member : {bytes : List ℕ} {few x v j : ℕ} {c : Comparand} → Compares bytes few x v j c → (q : ℕ)
-    → added bytes c q ≡ pick (same_number bytes few x q (v + j)) (2 ^ j) 0
+    → added bytes q c ≡ pick (same_number bytes few x q (v + j)) (2 ^ j) 0
 adds_member {bytes} {few} {x} {v} {j} {c} by q =
     ap₂ (λ (m w : ℕ). pick (eqb m (word bytes (c.at + q))) w 0) by.own by.bit
     ∙ ap (λ (o : ℕ). pick (eqb (number_at bytes (v + j) x) (word bytes (o + q))) (bit few (v + j) * 2 ^ j) 0) by.place
@@ -129,18 +80,31 @@ adds_member {bytes} {few} {x} {v} {j} {c} by q =
     two_pos : 0 < 2
     two_pos = omega arith
 
-pub eight_part : {bytes : List ℕ} {few x v : ℕ} {e : Eight} → ComparesEight bytes few x v e → (q : ℕ)
-    → eight_of bytes e q ≡ part_at bytes few x v q
-eight_part {bytes} {few} {x} {v} {e} by q =
+-- and what the members add, one after the other, is the part
+added_from : (bytes : List ℕ) (few x v q : ℕ) (members : List Comparand) (i s : ℕ)
+    → ((j : ℕ) (d : Comparand) → j < length members → Compares bytes few x v (i + j) (get_or members j d))
+    → s ≡ set_below i (λ j. same_number bytes few x q (v + j))
+    → fold (λ bits c. bit_or bits (added bytes q c)) s members
+    ≡ set_below (i + length members) (λ j. same_number bytes few x q (v + j))
+added_from bytes few x v q [] i s by e = rw (add-zero i) e
+added_from bytes few x v q (c ∷ members) i s by e =
     let f : ℕ → Bool = λ j. same_number bytes few x q (v + j) in
-    let s1 = or_first f _ (adds_member by.c0 q) in
-    let s2 = or_next f 1 _ _ s1 (adds_member by.c1 q) in
-    let s3 = or_next f 2 _ _ s2 (adds_member by.c2 q) in
-    let s4 = or_next f 3 _ _ s3 (adds_member by.c3 q) in
-    let s5 = or_next f 4 _ _ s4 (adds_member by.c4 q) in
-    let s6 = or_next f 5 _ _ s5 (adds_member by.c5 q) in
-    let s7 = or_next f 6 _ _ s6 (adds_member by.c6 q) in
-    or_next f 7 _ _ s7 (adds_member by.c7 q)
+    let first : Compares bytes few x v i c = rw (add-zero i) at (by 0 c (omega arith)) in
+    let rest = added_from bytes few x v q members (suc i) (bit_or s (added bytes q c))
+    (λ j d l.
+    let e : i + suc j ≡ suc i + j = omega arith in
+    subst (λ (k : ℕ). Compares bytes few x v k (get_or members j d)) e (by (suc j) d (omega arith)))
+    (or_next f i s (added bytes q c) e (adds_member first q)) in
+    let e : suc i + length members ≡ i + suc (length members) = omega arith in
+    rest ∙ ap (λ (n : ℕ). set_below n f) e
+
+pub part_added : {bytes : List ℕ} {few x v : ℕ} {members : List Comparand} → ComparesEach bytes few x v members
+    → (q : ℕ) → fold (λ bits c. bit_or bits (added bytes q c)) 0 members ≡ part_at bytes few x v q
+unfolding set_below
+part_added {bytes} {few} {x} {v} {members} by q =
+    added_from bytes few x v q members 0 0
+    (λ j d l. rw (zero-add j) (by.each j d (omega (arith, by.long)))) refl
+    ∙ ap (λ (n : ℕ). set_below n (λ j. same_number bytes few x q (v + j))) (zero-add (length members) ∙ by.long)
 
 -- no number passes
 none_pass : (n : ℕ) (f : ℕ → Bool) → ((k : ℕ) → k < n → f k ≡ false) → set_below n f ≡ 0
@@ -188,17 +152,19 @@ or_one n k f g l z e = at (g k) refl
         subst (λ (j : ℕ). bit (bit_or (set_below n f) (2 ^ k)) j ≡ bit (set_below n g) j) (sym w)
         (bit_with_same (set_below n f) k ∙ sym (set_below_bit n g k l ∙ ap (λ (t : Bool). pick {A = ℕ} t 1 0) u))
     bits i m u (no d) =
-        bit_with_other (set_below n f) i k d ∙ set_below_bit n f i m ∙ ap (λ (t : Bool). pick {A = ℕ} t 1 0) (sym (e i d))
+        bit_with_other (set_below n f) i k d ∙ set_below_bit n f i m
+        ∙ ap (λ (t : Bool). pick {A = ℕ} t 1 0) (sym (e i d))
         ∙ sym (set_below_bit n g i m)
 
     at : (t : Bool) → g k ≡ t → bit_or (set_below n f) (pick t (2 ^ k) 0) ≡ set_below n g
     at true u =
-        bits_same n (bit_or (set_below n f) (2 ^ k)) (set_below n g) (with_below n (set_below n f) k (set_below_lt n f) l)
+        bits_same n (bit_or (set_below n f) (2 ^ k)) (set_below n g)
+        (with_below n (set_below n f) k (set_below_lt n f) l)
         (set_below_lt n g)
         (λ i m. bits i m u (ℕ_discrete i k))
     at false u = or_zero_r (set_below n f) ∙ set_below_same n f g (λ i m. others i u (ℕ_discrete i k))
 
--- one member more is looked at by keys: a numbered one changes nothing, any other is joined
+-- one member more is looked at by keys, and joined if it is not numbered
 ltb_next : (k m : ℕ) → (k ≡ m → ⊥) → ltb k (m + 1) ≡ ltb k m
 ltb_next k m d = at (dec_lt k m)
   where
@@ -221,14 +187,6 @@ module _ (keys bytes : List ℕ) (few x q : ℕ) where
   met_other m k d =
       ap (λ (t : Bool). pick (eqb (bit few k) 1) (eqb (number_at bytes k x) (number_at bytes k q))
       (t && eqb (key_at keys k x) (key_at keys k q))) (ltb_next k m d)
-
-  pub met_kept : (m : ℕ) → bit few m ≡ 1 → met_at keys bytes few m x q ≡ met_at keys bytes few (m + 1) x q
-  met_kept m e = set_below_same line_members (met keys bytes few m x q) (met keys bytes few (m + 1) x q)
-      (λ k l. at k (ℕ_discrete k m))
-    where
-      at : (k : ℕ) → Dec (k ≡ m) → met keys bytes few m x q k ≡ met keys bytes few (m + 1) x q k
-      at k (yes u) = let b : bit few k ≡ 1 = ap (bit few) u ∙ e in by_number m k b ∙ sym (by_number (m + 1) k b)
-      at k (no d) = sym (met_other m k d)
 
   pub met_joined : (m : ℕ) → m < line_members → bit few m ≡ 0
       → bit_or (met_at keys bytes few m x q) (pick (eqb (key_at keys m x) (key_at keys m q)) (2 ^ m) 0)
@@ -283,10 +241,6 @@ none_left few n p is e k l z =
     let full : bit few k ≡ 1 = ap (λ (y : ℕ). bit y k) (e ∙ ap (λ (p : ℕ). p - 1) is) ∙ bit_full n k l in
     absurd (omega arith)
 
--- two bytes, the second with a weight, fit a number of a line
-pub weighted_fits : (a b w : ℕ) → a < 256 → b < 256 → w ≤ 256 → a + w * b < 65536
-weighted_fits a b w la lb lw = omega (arith, mul-le-mul_right b lw)
-
 -- the same of whole lines
 pub line_low : (bytes : List ℕ) (few x : ℕ) {end : ℕ} (low high : List ℕ) {line : List ℕ} → few < 256
     → LineOf (part_at bytes few x 0) x end low
@@ -304,13 +258,10 @@ pub line_parts : (bytes : List ℕ) (few x : ℕ) {end : ℕ} (low high : List �
 line_parts bytes few x low high part other h =
     line_as (numbered_at bytes few x) (λ q k m. parts_are bytes low high few x q (part.at q k m) (other.at q k m)) h
 
-pub line_none : (keys bytes : List ℕ) (few x : ℕ) {end : ℕ} {line : List ℕ} → LineOf (numbered_at bytes few x) x end line
+pub line_none : (keys bytes : List ℕ) (few x : ℕ) {end : ℕ} {line : List ℕ}
+    → LineOf (numbered_at bytes few x) x end line
     → LineOf (met_at keys bytes few 0 x) x end line
 line_none keys bytes few x h = line_as (met_at keys bytes few 0 x) (λ q k m. met_none keys bytes few x q) h
-
-pub line_kept : (keys bytes : List ℕ) (few k x : ℕ) {end : ℕ} {line : List ℕ} → bit few k ≡ 1
-    → LineOf (met_at keys bytes few k x) x end line → LineOf (met_at keys bytes few (k + 1) x) x end line
-line_kept keys bytes few k x e h = line_as (met_at keys bytes few (k + 1) x) (λ q l m. met_kept keys bytes few x q k e) h
 
 pub line_joined : (keys bytes : List ℕ) (few k x : ℕ) {end : ℕ} (before : List ℕ) {after : List ℕ} → k < column_bound
     → bit few k ≡ 0 → LineOf (with_member keys k x before) x end after → LineOf (met_at keys bytes few k x) x end before

@@ -8,7 +8,7 @@
 mod part;
 mod wide;
 
-ghost use Rattle.std.specs.Prelude.{◌≤◌, ◌<◌, ◌≡◌, length};
+ghost use Rattle.std.specs.Prelude.{◌≤◌, ◌<◌};
 ghost use Rattle.columns.specs.Bound.{column_bound};
 ghost use Rattle.model.specs.Bounds.{row_bound};
 ghost use Rattle.table.specs.Broken.{agree_set_of};
@@ -36,10 +36,8 @@ pub fn line_of(
     line: &mut [u16; ROWS],
 )
     requires n_le_column_bound { (n ≤ column_bound) × (x < row_bound) × (end ≤ row_bound) }
-    requires low_len { (length low.old ≡ row_bound) × (length high.old ≡ row_bound) × (length line.old ≡ row_bound) }
     requires numbered { Numbered keys.now n end few bytes.now }
-    ensures line_of { LineOf (agree_set_of (key_view keys.now n end) x) x end line.new }
-    ensures low_len_2 { (length low.new ≡ row_bound) × (length high.new ≡ row_bound) }
+    ensures { LineOf (agree_set_of (key_view keys.now n end) x) x end line.new }
 {
     numbered_line(bytes, few, x, end, low, high, line);
     if few == power(n) - 1 {

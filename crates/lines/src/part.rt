@@ -1,134 +1,80 @@
 // A part of a line: eight members compared by the numbers of their classes, a bit of a byte for each.
-ghost use Rattle.std.specs.Prelude.{◌+◌, ◌≤◌, ◌<◌, ◌≡◌, eqb, length};
+ghost use Rattle.std.specs.Prelude.{◌+◌, ◌≤◌, ◌<◌, ◌≡◌, bit_or, fold, All};
 ghost use Rattle.columns.specs.Bound.{column_bound};
-ghost use Rattle.columns.specs.Test.{pick};
 ghost use Rattle.model.specs.Bounds.{row_bound};
-ghost use Rattle.table.specs.Words.{word};
 ghost use Rattle.classes.specs.Classes.{bytes_size};
-ghost use Rattle.lines.specs.Lines.{LineOf, joined_at, part_at, numbered_at};
-ghost use Rattle.lines.specs.Compares.{Compares, ComparesEight, InsideEight, eight_of};
+ghost use Rattle.lines.specs.Lines.{LineOf, part_members, joined_at, part_at, numbered_at};
+ghost use Rattle.lines.specs.Compares.{Compares, ComparesEach, added};
 
 use bits::power;
 use classes::{BYTES, STRIDE};
 use leaders::ROWS;
+// How many members a part has a bit for; `part_members` of specs/Lines.antt is the same number in the definitions.
+const MEMBERS: usize = 8;
 
 // What a row is compared by on one member: where the member's numbers stand, the row's own number, and the member's
 // bit, or 0 where it counts for nothing.
-#[derive(Clone, Copy)]
+#[derive(Clone, Copy, Default)]
 pub struct Comparand {
     pub at: usize,
     pub own: u8,
     pub bit: u8,
 }
 
-// The same on eight members.
-#[derive(Clone, Copy)]
-pub struct Eight {
-    pub m0: Comparand,
-    pub m1: Comparand,
-    pub m2: Comparand,
-    pub m3: Comparand,
-    pub m4: Comparand,
-    pub m5: Comparand,
-    pub m6: Comparand,
-    pub m7: Comparand,
-}
-
-// w if two numbers are equal, else 0.
-fn same(x: u8, y: u8, w: u8) -> u8
-    ensures { result ≡ pick (eqb x y) w 0 }
-{
-    if x == y {
-        return w;
-    }
-    0
-}
-
 // What row x is compared by on member v + j. The bit is a product and not chosen by a test, which the compiler would
 // carry into the loop over rows.
 fn comparand_of(bytes: &[u8; BYTES], few: u32, x: usize, v: u32, j: u32) -> Comparand
-    requires { (x < row_bound) × (v + j < column_bound) × (j < 8) }
+    requires { (x < row_bound) × (v + j < column_bound) × (j < part_members) }
     ensures { Compares bytes.now few x v j result }
 {
     let k = v + j;
     let at = k as usize * STRIDE;
-    let own = bytes[at + x];
-    let bit = ((few >> k) % 2 * power(j)) as u8;
     Comparand {
-        at: at,
-        own: own,
-        bit: bit,
+        at,
+        own: bytes[at + x],
+        bit: ((few >> k) % 2 * power(j)) as u8,
     }
 }
 
 // What row x is compared by on the eight members from v on.
-fn eight_of(bytes: &[u8; BYTES], few: u32, x: usize, v: u32) -> Eight
-    requires { (x < row_bound) × (v + 8 ≤ column_bound) }
-    ensures { ComparesEight bytes.now few x v result }
+fn comparands(bytes: &[u8; BYTES], few: u32, x: usize, v: u32) -> [Comparand; MEMBERS]
+    requires { (x < row_bound) × (v + part_members ≤ column_bound) }
+    ensures { ComparesEach bytes.now few x v result }
 {
-    let m0 = comparand_of(bytes, few, x, v, 0);
-    let m1 = comparand_of(bytes, few, x, v, 1);
-    let m2 = comparand_of(bytes, few, x, v, 2);
-    let m3 = comparand_of(bytes, few, x, v, 3);
-    let m4 = comparand_of(bytes, few, x, v, 4);
-    let m5 = comparand_of(bytes, few, x, v, 5);
-    let m6 = comparand_of(bytes, few, x, v, 6);
-    let m7 = comparand_of(bytes, few, x, v, 7);
-    Eight {
-        m0: m0,
-        m1: m1,
-        m2: m2,
-        m3: m3,
-        m4: m4,
-        m5: m5,
-        m6: m6,
-        m7: m7,
+    let mut members = [Comparand::default(); MEMBERS];
+    for j in 0..MEMBERS {
+        members[j] = comparand_of(bytes, few, x, v, j as u32);
     }
+    members
 }
 
 // The bit of a member if row q has the same number there, else 0.
-fn agreeing(bytes: &[u8; BYTES], c: Comparand, q: usize) -> u8
-    requires { c.at + q < bytes_size }
-    ensures { result ≡ pick (eqb c.own (word bytes.now (c.at + q))) c.bit 0 }
+fn agreeing_bit(bytes: &[u8; BYTES], c: &Comparand, q: usize) -> u8
+    requires { c.now.at + q < bytes_size }
+    ensures { result ≡ added bytes.now q c.now }
 {
-    let at = c.at;
-    same(c.own, bytes[at + q], c.bit)
+    if c.own == bytes[c.at + q] { c.bit } else { 0 }
 }
 
-// The bits of the eight members on which row q has the same numbers.
-fn agreeing_eight(bytes: &[u8; BYTES], e: Eight, q: usize) -> u8
-    requires { InsideEight e q }
-    ensures { result ≡ eight_of bytes.now e q }
+// The bits of the members on which row q has the same numbers.
+fn agreeing(bytes: &[u8; BYTES], members: &[Comparand; MEMBERS], q: usize) -> u8
+    requires { All (λ c. c.at + q < bytes_size) members.now }
+    ensures { result ≡ fold (λ bits c. bit_or bits (added bytes.now q c)) 0 members.now }
 {
-    agreeing(bytes, e.m0, q)
-        | agreeing(bytes, e.m1, q)
-        | agreeing(bytes, e.m2, q)
-        | agreeing(bytes, e.m3, q)
-        | agreeing(bytes, e.m4, q)
-        | agreeing(bytes, e.m5, q)
-        | agreeing(bytes, e.m6, q)
-        | agreeing(bytes, e.m7, q)
+    members
+        .iter()
+        .fold(0, |bits, c| bits | agreeing_bit(bytes, c, q))
 }
 
 // The part of row x's line by the eight members from v on.
 fn compare_eight(bytes: &[u8; BYTES], few: u32, x: usize, v: u32, end: usize, part: &mut [u8; ROWS])
-    requires { (x < row_bound) × (v + 8 ≤ column_bound) × (end ≤ row_bound) × (length part.old ≡ row_bound) }
+    requires { (x < row_bound) × (v + part_members ≤ column_bound) × (end ≤ row_bound) }
     ensures { LineOf (part_at bytes.now few x v) x end part.new }
 {
-    let e = eight_of(bytes, few, x, v);
-    let mut q = x + 1;
-    while q < end {
-        part[q] = agreeing_eight(bytes, e, q);
-        q += 1;
+    let members = comparands(bytes, few, x, v);
+    for q in x + 1..end {
+        part[q] = agreeing(bytes, &members, q);
     }
-}
-
-// A byte as a wider number.
-fn wide(x: u8) -> u16
-    ensures is { result ≡ x }
-    ensures small { result < 256 }
-{
-    x as u16
 }
 
 // A line by its two parts, the high one with a weight, which is 0 where it counts for nothing.
@@ -140,13 +86,11 @@ fn join_parts(
     weight: u16,
     line: &mut [u16; ROWS],
 )
-    requires { (x < row_bound) × (end ≤ row_bound) × (length line.old ≡ row_bound) × (weight ≤ 256) }
+    requires { (x < row_bound) × (end ≤ row_bound) × (weight ≤ 256) }
     ensures { LineOf (joined_at weight low.now high.now) x end line.new }
 {
-    let mut q = x + 1;
-    while q < end {
-        line[q] = wide(low[q]) + weight * wide(high[q]);
-        q += 1;
+    for q in x + 1..end {
+        line[q] = u16::from(low[q]) + weight * u16::from(high[q]);
     }
 }
 
@@ -160,10 +104,8 @@ pub fn numbered_line(
     high: &mut [u8; ROWS],
     line: &mut [u16; ROWS],
 )
-    requires x_lt_row_bound { (x < row_bound) × (end ≤ row_bound) }
-    requires low_len { (length low.old ≡ row_bound) × (length high.old ≡ row_bound) × (length line.old ≡ row_bound) }
-    ensures line_of { LineOf (numbered_at bytes.now few x) x end line.new }
-    ensures low_len_2 { (length low.new ≡ row_bound) × (length high.new ≡ row_bound) }
+    requires { (x < row_bound) × (end ≤ row_bound) }
+    ensures { LineOf (numbered_at bytes.now few x) x end line.new }
 {
     compare_eight(bytes, few, x, 0, end, low);
     if few < 256 {

@@ -1,7 +1,7 @@
--- The words written from the bytes that say which agree sets occur, one after the other, and what they are for a view
+-- The words written from the flags that say which agree sets occur, one after the other, and what they are for a view
 -- that the keys are right for.
 use Prim.Native.Nat.{ℕ, suc, ◌+◌, ◌-◌, ◌*◌, ◌^◌, ◌≤◌, ◌<◌}
-use mathlib.Core.Path.{◌≡◌, refl, sym, ap, subst, ◌∙◌}
+use mathlib.Core.Path.{◌≡◌, sym, ap, subst, ◌∙◌}
 use mathlib.Core.Logic.{◌↔◌}
 use mathlib.Core.Bool.{Bool, true, false}
 use mathlib.Core.List.{List}
@@ -9,14 +9,14 @@ use native.Mathlib.Numerals.{add-one}
 use native.Mathlib.Omega.{arith}
 use lib.Bits.{bit_or}
 use lib.Dec.{T}
-use lib.ListN.{length, set}
+use lib.ListN.{set}
 use lib.Pow.{pow_mono, pow_pos}
-use lib.Seq.{get_or-set_same, get_or-set_other}
+use lib.Seq.{get_or-set_other}
 use Rattle.columns.specs.Bound.{column_bound}
 use Rattle.columns.specs.Set.{set_below}
 use Rattle.columns.specs.Test.{pick}
 use Rattle.model.specs.View.{View, Equivalence}
-use Rattle.model.proofs.Truth.{eqb_is}
+use Rattle.model.proofs.Truth.{is_true, true_is}
 use Rattle.table.specs.Words.{word}
 use Rattle.table.specs.Broken.{Occurs, broken_by, Scanned}
 use Rattle.table.proofs.Scan.{noted_scanned}
@@ -36,57 +36,19 @@ use Rattle.filled.proofs.Filled.{filled_first}
 pub power_some : (n p : ℕ) → p ≡ 2 ^ n → 1 ≤ p
 power_some n p e = omega (arith, pow_pos n)
 
--- what an agree set breaks
-pub set_inside : (n s e : ℕ) → n ≤ column_bound → e ≡ 2 ^ n → s < e → s < 2 ^ column_bound
-set_inside n s e h is l = omega (arith, pow_mono {i = n} {j = column_bound} h)
-
-pub set_fits : (n m s e p : ℕ) → e ≡ 2 ^ n → p ≡ 2 ^ m → s < e → n ≤ m → s ≤ p - 1
-set_fits n m s e p is next l h = omega (arith, pow_mono {i = n} {j = m} h)
-
-pub broken_is : (seen : List ℕ) (n s p r : ℕ) → p ≡ 2 ^ (n + 1) → r ≡ pick (seen_at seen s) (p - 1 - s) 0
-    → r ≡ broken_word seen n s
-broken_is seen n s p r next e =
-    e ∙ ap (λ (p : ℕ). pick (seen_at seen s) (p - 1 - s) 0) (next ∙ ap (λ (k : ℕ). 2 ^ k) (add-one n))
-
--- the bits of 32 agree sets: the first j are gathered
-pub record Gathering (seen : List ℕ) (i j w : ℕ) : Type 0 where
-  pub few : j ≤ 32
-  pub bits : w ≡ set_below j (λ j. seen_at seen (i * 32 + j))
-
-pub gathering_none : (seen : List ℕ) (i : ℕ) → Gathering seen i 0 0
-unfolding set_below
-gathering_none seen i = record { few = omega arith; bits = refl }
-
-pub gathering_more : {seen : List ℕ} {i j w p r : ℕ} → j < 32 → p ≡ 2 ^ j → r ≡ pick (seen_at seen (i * 32 + j)) p 0
-    → Gathering seen i j w → Gathering seen i (j + 1) (bit_or w r)
-gathering_more {seen} {i} {j} {w} {p} {r} l is g h =
-    let f : ℕ → Bool = λ j. seen_at seen (i * 32 + j) in
-    record {
-      few = omega arith;
-      bits = or_next f j w r h.bits (g ∙ ap (λ (p : ℕ). pick (f j) p 0) is)
-          ∙ ap (λ (i : ℕ). set_below i f) (sym (add-one j));
-    }
-
-pub gathering_all : {seen : List ℕ} {i j w : ℕ} → 32 ≤ j → Gathering seen i j w → w ≡ plane_word (seen_at seen) i
-gathering_all {seen} {i} {j} l h =
-    let all : j ≡ 32 = omega (arith, h.few) in
-    h.bits ∙ ap (λ (k : ℕ). set_below k (λ j. seen_at seen (i * 32 + j))) all
+-- the bits of 32 agree sets, one after the other
+pub gathered_more : (f : ℕ → Bool) (j w p r : ℕ) → p ≡ 2 ^ j → r ≡ pick (f j) p 0 → w ≡ set_below j f
+    → bit_or w r ≡ set_below (j + 1) f
+gathered_more f j w p r is g h =
+    or_next f j w r h (g ∙ ap (λ (p : ℕ). pick (f j) p 0) is) ∙ ap (λ (i : ℕ). set_below i f) (sym (add-one j))
 
 pub seed_inside : (n i e : ℕ) → 5 ≤ n → n ≤ column_bound → e ≡ 2 ^ (n - 5) → i < e → i * 32 < 2 ^ column_bound
 seed_inside n i e h b is l = omega (arith, power_words n h, pow_mono {i = n} {j = column_bound} b)
 
--- no pair is cached: the count behind the seeds and a plane of as many words is 0
-pub none_cached : (n m : ℕ) (ws : List ℕ) → m ≡ 2 ^ (n - 4) → m + 4 ≤ length ws
-    → word (set ws (m + 1) 0) (2 ^ (n - 4) + 1) ≡ 0
-none_cached n m ws is l =
-    subst (λ (k : ℕ). word (set ws (m + 1) 0) (k + 1) ≡ 0) is (get_or-set_same ws (m + 1) 0 0 (omega arith))
-
--- the bytes as tests
-module _ {keys seen : List ℕ} {n end : ℕ} (seen-is : SeenSets keys n end seen) where
+-- the flags as tests
+module _ {keys : List ℕ} {seen : List Bool} {n end : ℕ} (seen-is : SeenSets keys n end seen) where
   tests : (s : ℕ) → T (seen_at seen s) ↔ Occurs (key_view keys n end) s
-  tests s =
-      let is = eqb_is (word seen s) 1 in
-      (λ t. (seen-is.occurs s).0 (is.0 t), λ f. is.1 ((seen-is.occurs s).1 f))
+  tests s = let is = seen-is.occurs s in (λ t. is.0 (is_true t), λ f. true_is (is.1 f))
 
   -- for a view that the keys are right for
   for_view : (v : View) → Keyed v (2 ^ n - 1) n end keys → (s : ℕ) → T (seen_at seen s) ↔ Occurs v s

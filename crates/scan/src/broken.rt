@@ -10,21 +10,18 @@ ghost use Rattle.filled.specs.Filled.{Filled};
 ghost use Rattle.scan.specs.SeenSets.{broken_word};
 
 use crate::SETS;
-use crate::pairs::{if_seen, occurring};
+use crate::pairs::occurring;
 use bits::power;
 use leaders::SIZE;
 
 // Writes what each agree set that is seen breaks.
-fn write_broken(seen: &[u8; SETS], n: u32, words: &mut [u32])
+fn write_broken(seen: &[bool; SETS], n: u32, words: &mut [u32])
     requires { (n ≤ column_bound) × (2 ^ n ≤ length words.old) }
     ensures { Filled 0 (2 ^ n) (broken_word seen.now n) words.old words.new }
 {
     let all = power(n + 1) - 1;
-    let end = power(n);
-    let mut s: u32 = 0;
-    while s < end {
-        words[s as usize] = if_seen(seen[s as usize], all - s);
-        s += 1;
+    for s in 0..power(n) {
+        words[s as usize] = if seen[s as usize] { all - s } else { 0 };
     }
 }
 
@@ -35,7 +32,7 @@ pub fn write(keys: &[u16; SIZE], n: u32, end: usize, words: &mut [u32])
     ensures { ((s : ℕ) → s < 2 ^ n → word words.new s < 2 ^ suc n)
         × ((v : View) → Keyed v (2 ^ n - 1) n end keys.now → Scanned v words.new) }
 {
-    let mut seen = [0; SETS];
+    let mut seen = [false; SETS];
     occurring(keys, n, end, &mut seen);
     write_broken(&seen, n, words);
 }

@@ -1,5 +1,5 @@
-// Not for callers: what the agree sets that occur break, or the seeds, of any view whose rows are laid as keys. A byte
-// for each agree set notes which of them occur in the lines of the rows, and the words are written from these bytes.
+// Not for callers: what the agree sets that occur break, or the seeds, of any view whose rows are laid as keys. A flag
+// for each agree set notes which of them occur in the lines of the rows, and the words are written from these flags.
 // Relies on `classes` and `lines` for the lines, and on the definitions of `table` and `planes`. Called by `rights` and
 // `soundness`.
 #![tactic(auto)]

@@ -11,36 +11,35 @@ ghost use Rattle.filled.specs.Filled.{Filled};
 ghost use Rattle.scan.specs.SeenSets.{seen_at};
 
 use crate::SETS;
-use crate::pairs::{if_seen, occurring};
+use crate::pairs::occurring;
 use bits::power;
 use leaders::SIZE;
 
 // The bits of the 32 agree sets that stand in word i.
-fn gathered(seen: &[u8; SETS], i: u32) -> u32
+fn gathered(seen: &[bool; SETS], i: u32) -> u32
     requires { i * 32 < 2 ^ column_bound }
     ensures { result ≡ plane_word (seen_at seen.now) i }
 {
     let from = i * 32;
     let mut w = 0;
-    let mut j = 0;
-    while j < 32 {
-        w = w | if_seen(seen[(from + j) as usize], power(j));
-        j += 1;
+    for j in 0..32 {
+        w |= if seen[(from + j) as usize] {
+            power(j)
+        } else {
+            0
+        };
     }
     w
 }
 
 // Writes the bits of all agree sets of n members.
-fn write_seeds(seen: &[u8; SETS], n: u32, words: &mut [u32])
+fn write_seeds(seen: &[bool; SETS], n: u32, words: &mut [u32])
     requires { (5 ≤ n) × (n ≤ column_bound) × (seed_words n ≤ length words.old) }
     ensures { Filled 0 (seed_words n) (plane_word (seen_at seen.now)) words.old
         words.new }
 {
-    let end = power(n - 5);
-    let mut i: u32 = 0;
-    while i < end {
+    for i in 0..power(n - 5) {
         words[i as usize] = gathered(seen, i);
-        i += 1;
     }
 }
 
@@ -52,7 +51,7 @@ pub fn sow_among(keys: &[u16; SIZE], n: u32, m: u32, end: usize, words: &mut [u3
     ensures { (length words.new ≡ length words.old)
         × ((v : View) → Keyed v (2 ^ n - 1) n end keys.now → SeedsBelow v m words.new) }
 {
-    let mut seen = [0; SETS];
+    let mut seen = [false; SETS];
     occurring(keys, n, end, &mut seen);
     write_seeds(&seen, m, words);
 }
@@ -65,7 +64,7 @@ pub fn sow(keys: &[u16; SIZE], n: u32, end: usize, words: &mut [u32])
         → Sown v n words.new }
     ensures n_after { word words.new (2 ^ (n - 4) + 1) ≡ 0 }
 {
-    let mut seen = [0; SETS];
+    let mut seen = [false; SETS];
     occurring(keys, n, end, &mut seen);
     write_seeds(&seen, n, words);
     words[power(n - 4) as usize + 1] = 0;

@@ -1,10 +1,6 @@
 -- `blocks::answer_block` meets its contract. The loop's invariant: the rights below `a` are answered.
-use Prim.Native.Nat.{suc, ◌-◌, ◌≤◌}
 use Rattle.blocks.proofs.Answers.{AnsweredBelow}
 use Rattle.blocks.proofs.answer_block.Given as goal
 
 abbrev pub invariant-loop-a : goal.invariant-loop-a
-invariant-loop-a l = (l.a ≤ suc l.n) × AnsweredBelow l.n l.own l.a l.count l.initial.words l.words
-
-abbrev pub decreases-loop-a : goal.decreases-loop-a
-decreases-loop-a l = suc l.n - l.a
+invariant-loop-a l = AnsweredBelow l.n l.own l.a l.count l.initial.words l.words

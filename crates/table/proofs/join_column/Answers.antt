@@ -17,5 +17,6 @@ loop-start-preserved c =
 
 pub returns-2 : goal.returns-2
 returns-2 c =
-    let i = column_pass _ _ _ _ _ _ _ _ c.power-column.ensures (omega arith) c.loop-start.invariant c.join_block.ensures in
+    let i =
+    column_pass _ _ _ _ _ _ _ _ c.power-column.ensures (omega arith) c.loop-start.invariant c.join_block.ensures in
     column_joined _ _ _ _ (replacing_done _ _ _ _ _ _ _ (omega arith) i)

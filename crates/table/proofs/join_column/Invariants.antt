@@ -6,7 +6,8 @@ use Rattle.table.proofs.Replacing.{Replacing}
 use Rattle.table.proofs.join_column.Given as goal
 
 abbrev pub invariant-loop-start : goal.invariant-loop-start
-invariant-loop-start l = Replacing l.n (suc l.k) l.end l.start (with_column l.k (word l.initial.words)) l.initial.words l.words
+invariant-loop-start l =
+    Replacing l.n (suc l.k) l.end l.start (with_column l.k (word l.initial.words)) l.initial.words l.words
 
 abbrev pub decreases-loop-start : goal.decreases-loop-start
 decreases-loop-start l = l.end - l.start

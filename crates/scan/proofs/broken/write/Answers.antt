@@ -3,11 +3,8 @@ use Rattle.scan.proofs.Seeing.{blank_begun}
 use Rattle.scan.proofs.Writing.{written_small, written_scanned}
 use Rattle.scan.proofs.broken.write.Goals as goal
 
-pub occurring-requires : goal.occurring-requires
-occurring-requires c = record {
-  n_le_column_bound = (c.requires.0, c.requires.1);
-  blank = blank_begun;
-}
+pub occurring-requires-clause-blank : goal.occurring-requires-clause-blank
+occurring-requires-clause-blank c = blank_begun
 
 pub returns : goal.returns
 returns c =

@@ -1,15 +1,23 @@
 -- The answers of `scan::seeds::gathered`.
-use Prim.Native.Nat.{◌-◌}
-use native.Mathlib.Omega.{arith}
-use Rattle.scan.proofs.Writing.{gathering_none, gathering_more, gathering_all}
+use Prim.Native.Nat.{ℕ, ◌+◌, ◌*◌}
+use mathlib.Core.Path.{refl}
+use mathlib.Core.Bool.{Bool}
+use Rattle.columns.specs.Set.{set_below}
+use Rattle.scan.specs.SeenSets.{seen_at}
+use Rattle.scan.proofs.Writing.{gathered_more}
 use Rattle.scan.proofs.seeds.gathered.Goals as goal
+use Rattle.scan.proofs.seeds.gathered.Goals.{then-seen-from, else-seen-from}
 
 pub loop-j-init : goal.loop-j-init
-loop-j-init c = gathering_none _ _
+unfolding set_below
+loop-j-init c = refl
 
 pub loop-j-preserved : goal.loop-j-preserved
-loop-j-preserved c = gathering_more c.loop-j-test.true c.power.ensures
-    c.if_seen-w.ensures c.loop-j.invariant
-
-pub returns : goal.returns
-returns c = gathering_all (omega arith) c.loop-j.invariant
+loop-j-preserved c =
+    let i = c.args.i in
+    let f : ℕ → Bool = λ j. seen_at c.args.seen.now (i * 32 + j) in
+    elim c.if-seen-from.branch [
+      | then-seen-from w ↦
+          gathered_more f _ _ _ _ w.power.ensures (rw w.if-seen-from.true w.w-is) c.loop-j.invariant
+      | else-seen-from w ↦ gathered_more f _ _ _ _ refl (rw w.if-seen-from.false w.w-is) c.loop-j.invariant
+    ]

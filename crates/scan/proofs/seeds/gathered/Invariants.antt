@@ -1,10 +1,9 @@
 -- `scan::gathered` meets its contract. The invariant: the first j bits are gathered.
-use Prim.Native.Nat.{◌-◌}
-use Rattle.scan.proofs.Writing.{Gathering}
+use mathlib.Core.Path.{◌≡◌}
+use Prim.Native.Nat.{◌+◌, ◌*◌}
+use Rattle.columns.specs.Set.{set_below}
+use Rattle.scan.specs.SeenSets.{seen_at}
 use Rattle.scan.proofs.seeds.gathered.Given as goal
 
 abbrev pub invariant-loop-j : goal.invariant-loop-j
-invariant-loop-j l = Gathering l.seen l.i l.j l.w
-
-abbrev pub decreases-loop-j : goal.decreases-loop-j
-decreases-loop-j l = 32 - l.j
+invariant-loop-j l = l.w ≡ set_below l.j (λ j. seen_at l.seen (l.i * 32 + j))
