@@ -7,13 +7,12 @@ use mathlib.Core.Logic.{◌↔◌}
 use mathlib.Core.List.{List, [], ◌∷◌}
 use mathlib.Core.Bool.{Bool, true, false}
 use native.Mathlib.Omega.{arith}
+use Rattle.std.specs.Prelude.{Result, Ok, Err, Option, Some, None}
 use Rattle.columns.specs.Test.{pick}
 use Rattle.model.specs.Question.{question_code, ask_meaning, pair_meaning}
 use Rattle.model.specs.Reply.{answered, ask_reply, pair_reply}
-use Rattle.model.specs.declared.AskAnswer.{AskAnswer}
-use Rattle.model.specs.declared.AskAnswer.TheVariants as ask-answer
-use Rattle.model.specs.declared.PairAnswer.{PairAnswer}
-use Rattle.model.specs.declared.PairAnswer.TheVariants as pair-answer
+use Rattle.model.specs.declared.Refusal.{Refusal}
+use Rattle.model.specs.declared.RowPair.{RowPair}
 use Rattle.model.specs.View.{Holds, holds}
 use Rattle.model.specs.Pair.{FirstPair, first_pair}
 use Rattle.model.specs.Target.{view}
@@ -21,6 +20,10 @@ use Rattle.model.proofs.View.{holds_true, true_holds}
 use Rattle.model.proofs.Pair.{first_pair_is, first_exists_lem, none_holds}
 use Rattle.model.proofs.Target.{view_equivalence}
 use Rattle.dependency.proofs.Replies.{ask_meant, pair_meant}
+
+-- two rows
+abbrev pub row_pair : ℕ → ℕ → RowPair
+row_pair p q = record { first = p; second = q }
 
 -- there is a first breaking pair exactly if the dependency does not hold
 pub pair_exists : (cat : List ℕ) (t x a : ℕ)
@@ -32,7 +35,7 @@ module _ (cat : List ℕ) (t x a w : ℕ) (z : question_code cat t x a w ≡ 0) 
   rows_told : {rows : List ℕ} → answered rows ≡ pair_meaning cat t x a w → first_pair (view cat t) x a ≡ rows
   rows_told {rows} m = let e = pair_meant cat t x a w z ∙ sym m in cc
 
-  pub ask_exactly : (r : AskAnswer) → ask_reply r ≡ ask_meaning cat t x a w → (r ≡ ask-answer.Holds)
+  pub ask_exactly : (r : Result Bool Refusal) → ask_reply r ≡ ask_meaning cat t x a w → (r ≡ Ok true)
       ↔ Holds (view cat t) x a
   ask_exactly r e =
       (λ f. holds_true (view cat t) x a (said (holds (view cat t) x a) refl (ap ask_reply f)), λ h. at r e h)
@@ -48,21 +51,21 @@ module _ (cat : List ℕ) (t x a w : ℕ) (z : question_code cat t x a w ≡ 0) 
           let n : ◌≡◌ {A = ℕ} 0 1 = cc in
           absurd (omega arith)
 
-      at : (r : AskAnswer) → ask_reply r ≡ ask_meaning cat t x a w → Holds (view cat t) x a → r ≡ ask-answer.Holds
-      at ask-answer.Holds e h = refl
-      at ask-answer.Breaks e h =
+      at : (r : Result Bool Refusal) → ask_reply r ≡ ask_meaning cat t x a w → Holds (view cat t) x a → r ≡ Ok true
+      at (Ok true) e h = refl
+      at (Ok false) e h =
           let k : answered (0 ∷ []) ≡ answered (1 ∷ []) =
           e ∙ sym (ask_meant cat t x a w z)
           ∙ ap (λ (h : Bool). answered (pick h 1 0 ∷ [])) (true_holds (view cat t) x a h) in
           let n : ◌≡◌ {A = ℕ} 0 1 = cc in
           absurd (omega arith)
-      at (ask-answer.Refused q) e h =
+      at (Err q) e h =
           let k = e ∙ sym (ask_meant cat t x a w z) in
           let n : ◌≡◌ {A = ℕ} 0 1 = cc in
           absurd (omega arith)
 
   -- the pair is 'none' exactly if the dependency holds, and two rows exactly if they are the first breaking pair
-  pub pair_exactly : (r : PairAnswer) → pair_reply r ≡ pair_meaning cat t x a w → (r ≡ pair-answer.Nothing)
+  pub pair_exactly : (r : Result (Option RowPair) Refusal) → pair_reply r ≡ pair_meaning cat t x a w → (r ≡ Ok None)
       ↔ Holds (view cat t) x a
   pair_exactly r m = (
     λ f. (none_holds (view cat t) x a (view_equivalence cat t)).0 (rows_told (ap pair_reply (sym f) ∙ m)),
@@ -71,22 +74,22 @@ module _ (cat : List ℕ) (t x a w : ℕ) (z : question_code cat t x a w ≡ 0) 
         ∙ ap answered ((none_holds (view cat t) x a (view_equivalence cat t)).1 h)),
   )
     where
-      back : (r : PairAnswer) → pair_reply r ≡ answered [] → r ≡ pair-answer.Nothing
-      back (pair-answer.Rows p q) e = let n : ◌≡◌ {A = ℕ} 0 1 = cc in absurd (omega arith)
-      back pair-answer.Nothing e = refl
-      back (pair-answer.Refused q) e = let n : ◌≡◌ {A = ℕ} 0 1 = cc in absurd (omega arith)
+      back : (r : Result (Option RowPair) Refusal) → pair_reply r ≡ answered [] → r ≡ Ok None
+      back (Ok (Some p)) e = let n : ◌≡◌ {A = ℕ} 0 1 = cc in absurd (omega arith)
+      back (Ok None) e = refl
+      back (Err q) e = let n : ◌≡◌ {A = ℕ} 0 1 = cc in absurd (omega arith)
 
-  pub pair_first : (r : PairAnswer) (p q : ℕ) → pair_reply r ≡ pair_meaning cat t x a w → (r ≡ pair-answer.Rows p q)
+  pub pair_first : (r : Result (Option RowPair) Refusal) (p q : ℕ) → pair_reply r ≡ pair_meaning cat t x a w → (r ≡ Ok (Some (row_pair p q)))
       ↔ FirstPair (view cat t) x a p q
   pair_first r p q m = (
     λ f. (first_pair_is (view cat t) x a p q).0 (rows_told (ap pair_reply (sym f) ∙ m)),
     λ h. back r (m ∙ sym (pair_meant cat t x a w z) ∙ ap answered ((first_pair_is (view cat t) x a p q).1 h)),
   )
     where
-      back : (r : PairAnswer) → pair_reply r ≡ answered (p ∷ q ∷ []) → r ≡ pair-answer.Rows p q
-      back (pair-answer.Rows m n) e =
-          let f : m ≡ p = cc in
-          let g : n ≡ q = cc in
-          ap₂ pair-answer.Rows f g
-      back pair-answer.Nothing e = let n : ◌≡◌ {A = ℕ} 0 1 = cc in absurd (omega arith)
-      back (pair-answer.Refused q) e = let n : ◌≡◌ {A = ℕ} 0 1 = cc in absurd (omega arith)
+      back : (r : Result (Option RowPair) Refusal) → pair_reply r ≡ answered (p ∷ q ∷ []) → r ≡ Ok (Some (row_pair p q))
+      back (Ok (Some m)) e =
+          let f : m.first ≡ p = cc in
+          let g : m.second ≡ q = cc in
+          ap₂ (λ (p q : ℕ). Ok (Some (row_pair p q))) f g
+      back (Ok None) e = let n : ◌≡◌ {A = ℕ} 0 1 = cc in absurd (omega arith)
+      back (Err q) e = let n : ◌≡◌ {A = ℕ} 0 1 = cc in absurd (omega arith)

@@ -14,9 +14,9 @@ use bits::power;
 use keys::lay;
 use layout::{rows, visible};
 use leaders::SIZE;
-use model::ROW;
+use model::{ROW, RowPair};
 use partition::given;
-use search::{Found, first_pair};
+use search::first_pair;
 
 // The members that a question looks at: those of the left side, and the right side where it is a column.
 fn members_of(left: u32, right: u32) -> u32
@@ -74,7 +74,7 @@ pub fn holds(cat: &[u8], target: u32, left: u32, right: u32) -> bool
 }
 
 // The first breaking pair.
-pub fn breaking_pair(cat: &[u8], target: u32, left: u32, right: u32) -> Found
+pub fn breaking_pair(cat: &[u8], target: u32, left: u32, right: u32) -> Option<RowPair>
     requires { Posed cat.now target left right }
     ensures { rows_found result ≡ first_pair (view cat.now target) left right }
 {

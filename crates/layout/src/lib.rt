@@ -17,6 +17,7 @@ use model::TABLE_BOUND;
 pub use target::Target;
 
 // How many tables the trailer names.
+#[tactic(auto, unfolding(model::specs::Catalogue::tables))]
 pub fn tables(cat: &[u8]) -> u16
     ensures { result ≡ tables_of cat.now }
 {
@@ -24,6 +25,7 @@ pub fn tables(cat: &[u8]) -> u16
 }
 
 // Where the trailer starts.
+#[tactic(auto, unfolding(model::specs::Catalogue::trailer))]
 pub fn trailer(cat: &[u8]) -> u32
     ensures { result ≡ trailer_of cat.now }
 {
@@ -31,6 +33,7 @@ pub fn trailer(cat: &[u8]) -> u32
 }
 
 // Where a table starts.
+#[tactic(auto, unfolding(model::specs::Catalogue::table_at))]
 pub fn table_at(cat: &[u8], table: u32) -> u32
     ensures { result ≡ table_at cat.now table }
 {
@@ -38,6 +41,7 @@ pub fn table_at(cat: &[u8], table: u32) -> u32
 }
 
 // How many columns a table has.
+#[tactic(auto, unfolding(model::specs::Catalogue::columns))]
 pub fn columns(cat: &[u8], table: u32) -> u16
     ensures { result ≡ columns_of cat.now table }
 {
@@ -45,6 +49,7 @@ pub fn columns(cat: &[u8], table: u32) -> u16
 }
 
 // The parent table of a table.
+#[tactic(auto, unfolding(model::specs::Catalogue::parent))]
 pub fn parent(cat: &[u8], table: u32) -> u16
     ensures { result ≡ parent_of cat.now table }
 {
@@ -52,6 +57,7 @@ pub fn parent(cat: &[u8], table: u32) -> u16
 }
 
 // How many rows a table has.
+#[tactic(auto, unfolding(model::specs::Catalogue::rows))]
 pub fn rows(cat: &[u8], table: u32) -> u16
     ensures { result ≡ rows_of cat.now table }
 {
@@ -59,6 +65,7 @@ pub fn rows(cat: &[u8], table: u32) -> u16
 }
 
 // Where row k of a table starts.
+#[tactic(auto, using(crate::proofs::Where::product_small), unfolding(model::specs::Catalogue::row_at))]
 pub fn row_at(cat: &[u8], table: u32, k: u32) -> usize
     ensures is { result ≡ row_at cat.now table k }
     ensures small { result < 2 ^ 60 }
@@ -69,6 +76,7 @@ pub fn row_at(cat: &[u8], table: u32, k: u32) -> usize
 }
 
 // The first byte after a table's rows.
+#[tactic(auto, unfolding(model::specs::Catalogue::table_end))]
 pub fn table_end(cat: &[u8], table: u32) -> usize
     ensures is { result ≡ table_end cat.now table }
     ensures small { result < 2 ^ 60 }
@@ -77,6 +85,7 @@ pub fn table_end(cat: &[u8], table: u32) -> usize
 }
 
 // How many columns are visible in a table.
+#[tactic(auto, using(model::proofs::Climb::climb_ends, model::proofs::Climb::climb_goes_on, model::proofs::Climb::climb_over), unfolding(model::specs::Catalogue::visible))]
 pub fn visible(cat: &[u8], table: u32) -> u32
     ensures { result ≡ visible_of cat.now table }
 {
@@ -93,6 +102,7 @@ pub fn visible(cat: &[u8], table: u32) -> u32
 }
 
 // How many of them its ancestors have.
+#[tactic(auto, unfolding(model::specs::Catalogue::inherited))]
 pub fn inherited(cat: &[u8], table: u32) -> u32
     ensures { result ≡ inherited_of cat.now table }
 {
@@ -100,6 +110,7 @@ pub fn inherited(cat: &[u8], table: u32) -> u32
 }
 
 // The sets over all targets of an accepted catalogue.
+#[tactic(auto, using(model::proofs::Check::accepted_tables, model::proofs::Check::accepted_visible, crate::proofs::Where::sets_go_on, crate::proofs::Where::sets_over, crate::proofs::Where::accepted_sets), unfolding(model::specs::Catalogue::sets))]
 pub fn sets(cat: &[u8]) -> u32
     requires { Accepted cat.now }
     ensures { result ≡ sets_of cat.now }

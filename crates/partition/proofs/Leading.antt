@@ -1,12 +1,14 @@
 -- Leaders on a left side, member by member: by no member row 0 leads all, a member more is joined by one number a
 -- row, and once every row leads itself it does so by any more members.
-use Prim.Native.Nat.{ℕ, suc, ◌-◌, ◌≤◌, ◌<◌}
+use Prim.Native.Nat.{ℕ, suc, ◌≤◌, ◌<◌}
 use mathlib.Core.Path.{◌≡◌, refl, sym, ap₂, subst, ◌∙◌}
 use mathlib.Core.Logic.{◌↔◌}
+use mathlib.Core.Bool.{Bool, true}
 use mathlib.Core.List.{List}
 use native.Mathlib.Decide.{ℕ_discrete, dec_lt}
 use native.Mathlib.Omega.{arith}
-use lib.Dec.{T, eqb}
+use borrow.Author.Tests.{leb-true, le-leb}
+use lib.Dec.{T, eqb, leb}
 use lib.ListN.{get_or, length}
 use Rattle.columns.specs.Set.{bit}
 use Rattle.model.specs.Bounds.{row_bound}
@@ -56,19 +58,19 @@ module _ (keys : List ℕ) (end x : ℕ) where
         lowest = λ r l h. omega arith;
       }))
 
-  pub led_begun : (leaders : List ℕ) → length leaders ≡ row_bound → ((q : ℕ) → q < end → get_or leaders q 0 ≡ 0)
-      → Led keys 0 end x leaders (end - 1)
+  pub led_begun : (leaders : List ℕ) → length leaders ≡ row_bound
+      → ((q : ℕ) → q < end → get_or leaders q 0 ≡ 0) → Led keys 0 end x leaders (leb end 1)
   led_begun leaders long zeros = record {
     long = long;
     leads = λ q l. zeros q l ∙ sym (first_leads q);
-    alone = (λ e q l. omega (arith, first_leads q), λ f. few f (dec_lt 1 end));
+    alone = (λ e q l. omega (arith, leb-true end 1 e, first_leads q), λ f. le-leb end 1 (few f (dec_lt 1 end)));
   }
     where
-      few : AllLead (key_view keys 0 end) x → Dec (1 < end) → end - 1 ≡ 0
+      few : AllLead (key_view keys 0 end) x → Dec (1 < end) → end ≤ 1
       few f (yes l) = absurd (omega (arith, f 1 l, first_leads 1))
       few f (no n) = omega arith
 
-  module _ (k : ℕ) (leaders : List ℕ) (s : ℕ) (led : Led keys k end x leaders s) where
+  module _ (k : ℕ) (leaders : List ℕ) (s : Bool) (led : Led keys k end x leaders s) where
     -- a member that the left side does not have changes nothing
     pub led_skipped : (bit x k ≡ 1 → ⊥) → Led keys (suc k) end x leaders s
     led_skipped n = record {
@@ -89,7 +91,7 @@ module _ (keys : List ℕ) (end x : ℕ) where
             })
 
     -- one that it has is joined
-    pub led_joined : (ws after : List ℕ) (r : ℕ) → In k x
+    pub led_joined : (ws after : List ℕ) (r : Bool) → In k x
         → ((q : ℕ) → q < end → (key_at keys k q < key_bound)
         × (get_or ws q 0 ≡ leader_word (get_or leaders q 0) (key_at keys k q)))
         → Grouped ws end after r → Led keys (suc k) end x after r
@@ -118,7 +120,7 @@ module _ (keys : List ℕ) (end x : ℕ) where
         same q lq = first_same_leader (key_view keys (suc k) end) x ws q (λ p l. agree p q (omega arith) lq)
 
     -- once every row leads itself, it does so by more members
-    pub led_ended : (n : ℕ) → k ≤ n → s ≡ 0 → Led keys n end x leaders 0
+    pub led_ended : (n : ℕ) → k ≤ n → s ≡ true → Led keys n end x leaders true
     led_ended n h z = record {
       long = led.long;
       leads = λ q l. led.leads q l ∙ alone q l ∙ sym (still q l);

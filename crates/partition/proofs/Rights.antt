@@ -1,9 +1,9 @@
 -- What a left side gives, by its leaders; and its minimal rights: those that it gives and that need each of its
 -- members.
-use Prim.Native.Nat.{ℕ, suc, ◌-◌, ◌%◌, ◌^◌, ◌≤◌, ◌<◌}
+use Prim.Native.Nat.{ℕ, suc, ◌%◌, ◌^◌, ◌≤◌, ◌<◌}
 use mathlib.Core.Path.{◌≡◌, sym, ap, subst, ◌∙◌}
 use mathlib.Core.Logic.{◌↔◌}
-use mathlib.Core.Bool.{Bool, true}
+use mathlib.Core.Bool.{Bool, true, false}
 use mathlib.Core.List.{List}
 use native.Mathlib.Nat.{mod-lt}
 use native.Mathlib.Decide.{ℕ_discrete, dec_lt}
@@ -18,7 +18,7 @@ use Rattle.columns.specs.Test.{pick}
 use Rattle.columns.proofs.Bits.{bit_below, bit_past}
 use Rattle.model.specs.Bounds.{row}
 use Rattle.model.specs.View.{agree_right, holds, Minimal}
-use Rattle.model.proofs.Truth.{is_true, true_is, eqb_is}
+use Rattle.model.proofs.Truth.{is_true, true_is, false_is, eqb_is}
 use Rattle.model.proofs.View.{agree_right_reflexive, holds_true, true_holds, minimal_is}
 use Rattle.table.specs.Words.{lacking_of}
 use Rattle.table.specs.Broken.{minimal_mask}
@@ -32,13 +32,13 @@ use Rattle.leaders.proofs.Keys.{key_equivalence}
 use Rattle.partition.specs.Partition.{Led, Back, Gives, GivenBelow, Given, Needs}
 
 -- no leader stands behind its row
-pub led_back : (keys : List ℕ) (n end x : ℕ) (leaders : List ℕ) (r : ℕ) → Led keys n end x leaders r → Back leaders end
+pub led_back : (keys : List ℕ) (n end x : ℕ) (leaders : List ℕ) (r : Bool) → Led keys n end x leaders r → Back leaders end
 led_back keys n end x leaders r led q l = omega (arith, led.leads q l, leader_le (key_view keys n end) x q)
 
-module _ (keys : List ℕ) (n end x : ℕ) (leaders : List ℕ) (followers : ℕ) (few : n ≤ column_bound)
-    (led : Led keys n end x leaders followers) where
+module _ (keys : List ℕ) (n end x : ℕ) (leaders : List ℕ) (alone : Bool) (few : n ≤ column_bound)
+    (led : Led keys n end x leaders alone) where
   -- the row
-  pub alone_key : (followers ≡ 0) ↔ (holds (key_view keys n end) x row ≡ true)
+  pub alone_key : (alone ≡ true) ↔ (holds (key_view keys n end) x row ≡ true)
   alone_key =
       let k = key_by_leaders (key_view keys n end) (key_equivalence keys n end) x in (
         λ e. true_holds (key_view keys n end) x row (k.1 (led.alone.0 e)),
@@ -67,14 +67,14 @@ module _ (keys : List ℕ) (n end x : ℕ) (leaders : List ℕ) (followers : ℕ
         )
 
   -- where every row leads itself, the left side gives everything
-  alone_gives : followers ≡ 0 → (a : ℕ) → holds (key_view keys n end) x a ≡ true
+  alone_gives : alone ≡ true → (a : ℕ) → holds (key_view keys n end) x a ≡ true
   alone_gives e a =
       true_holds (key_view keys n end) x a
       ((holds_by_leaders (key_view keys n end) (key_equivalence keys n end) x a).1
       (λ q l. subst (λ (p : ℕ). T (agree_right (key_view keys n end) a p q)) (sym (led.alone.0 e q l))
       (agree_right_reflexive (key_view keys n end) (key_equivalence keys n end) a q)))
 
-  pub given_all : (wanted : ℕ) → followers ≡ 0 → Given keys n end x wanted (wanted % 2 ^ suc n)
+  pub given_all : (wanted : ℕ) → alone ≡ true → Given keys n end x wanted (wanted % 2 ^ suc n)
   given_all wanted e a = at (dec_lt a (suc n))
     where
       at : Dec (a < suc n)
@@ -89,7 +89,7 @@ module _ (keys : List ℕ) (n end x : ℕ) (leaders : List ℕ) (followers : ℕ
         λ f. absurd (omega (arith, f.1)),
       )
 
-  pub given_some : (wanted r : ℕ) → (followers ≡ 0 → ⊥) → GivenBelow keys leaders end wanted n r
+  pub given_some : (wanted r : ℕ) → alone ≡ false → GivenBelow keys leaders end wanted n r
       → Given keys n end x wanted r
   given_some wanted r other below a = (
     λ i.
@@ -108,7 +108,7 @@ module _ (keys : List ℕ) (n end x : ℕ) (leaders : List ℕ) (followers : ℕ
           (below.members a).1 (l, f.0, (gives_is a l).1 (sym (ap (holds (key_view keys n end) x) (column l)) ∙ f.2))
       at f (no g) =
           let e : a ≡ n = omega (arith, f.1) in
-          absurd (other (alone_key.1 (sym (ap (holds (key_view keys n end) x) (right_row n a e)) ∙ f.2)))
+          absurd (false_is other (true_is (alone_key.1 (sym (ap (holds (key_view keys n end) x) (right_row n a e)) ∙ f.2))))
 
 -- the members given, one by one
 module _ (keys leaders : List ℕ) (end wanted : ℕ) where

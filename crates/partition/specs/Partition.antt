@@ -1,5 +1,5 @@
 -- The partition of the rows by a left side, from keys alone: who leads each row, and which rights the left side gives.
-use Rattle.std.specs.Prelude.{ℕ, suc, ◌+◌, ◌*◌, ◌≤◌, ◌<◌, ◌≡◌, ◌↔◌, true, List, get_or, length}
+use Rattle.std.specs.Prelude.{ℕ, suc, ◌+◌, ◌*◌, ◌≤◌, ◌<◌, ◌≡◌, ◌↔◌, Bool, true, List, get_or, length}
 use Rattle.columns.specs.Set.{bit, without_of}
 use Rattle.model.specs.Bounds.{row_bound}
 use Rattle.model.specs.View.{In, holds}
@@ -15,16 +15,16 @@ key_bound = 65536
 abbrev pub leader_word : ℕ → ℕ → ℕ
 leader_word leader key = leader * key_bound + key
 
--- each row below `end` has its leader on the left side x by the first n members, and r is 0 exactly if each leads
+-- each row below `end` has its leader on the left side x by the first n members, and r is true exactly if each leads
 -- itself
-pub record Led (keys : List ℕ) (n end x : ℕ) (leaders : List ℕ) (r : ℕ) : Type 0 where
+pub record Led (keys : List ℕ) (n end x : ℕ) (leaders : List ℕ) (r : Bool) : Type 0 where
   pub long : length leaders ≡ row_bound
   pub leads : (q : ℕ) → q < end → get_or leaders q 0 ≡ leader_of (key_view keys n end) x q
-  pub alone : (r ≡ 0) ↔ AllLead (key_view keys n end) x
+  pub alone : (r ≡ true) ↔ AllLead (key_view keys n end) x
 
 -- one member more: leaders on a left side with member k, by the members below k, become those by the members up to k
-abbrev pub MemberJoined : List ℕ → ℕ → ℕ → List ℕ → List ℕ → ℕ → Type 0
-MemberJoined keys k end before after r = (x s : ℕ) → In k x → Led keys k end x before s → Led keys (suc k) end x after r
+abbrev pub MemberJoined : List ℕ → ℕ → ℕ → List ℕ → List ℕ → Bool → Type 0
+MemberJoined keys k end before after r = (x : ℕ) (s : Bool) → In k x → Led keys k end x before s → Led keys (suc k) end x after r
 
 -- no leader stands behind its row
 abbrev pub Back : List ℕ → ℕ → Type 0

@@ -23,20 +23,14 @@ use table::lacking;
 // A key is below it; `key_bound` of specs/Partition.antt is the same number in the definitions.
 const KEY_BOUND: u64 = 65536;
 
-// By no member row 0 leads every row, and all others follow it.
-fn lead_by_first(end: usize, leaders: &mut [u16; ROWS]) -> usize
+// By no member row 0 leads every row. Answers as `leaders_of`.
+fn lead_by_first(end: usize, leaders: &mut [u16; ROWS]) -> bool
     requires end_le_row_bound { end ≤ row_bound }
     requires leaders_len { length leaders.old ≡ row_bound }
     ensures { (keys : List ℕ) (x : ℕ) → Led keys 0 end x leaders.new result }
 {
-    let mut followers: usize = 0;
-    let mut q: usize = 0;
-    while q < end {
-        leaders[q] = 0;
-        followers = q;
-        q += 1;
-    }
-    followers
+    leaders[..end].fill(0);
+    end <= 1
 }
 
 // A leader and a key as one number.
@@ -48,7 +42,7 @@ fn word(leader: u16, key: u16) -> u64
 
 // One member more: rows have the same leader if they had the same one before and have the same key on member k.
 // Answers as `leaders_of`.
-fn join(keys: &[u16; SIZE], k: u32, end: usize, leaders: &mut [u16; ROWS]) -> usize
+fn join(keys: &[u16; SIZE], k: u32, end: usize, leaders: &mut [u16; ROWS]) -> bool
     requires k_lt_column_bound { k < column_bound }
     requires end_le_row_bound { end ≤ row_bound }
     requires leaders_len { length leaders.old ≡ row_bound }
@@ -56,10 +50,8 @@ fn join(keys: &[u16; SIZE], k: u32, end: usize, leaders: &mut [u16; ROWS]) -> us
 {
     let at = k as usize * ROWS;
     let mut words = [0u64; ROWS];
-    let mut q: usize = 0;
-    while q < end {
+    for q in 0..end {
         words[q] = word(leaders[q], keys[at + q]);
-        q += 1;
     }
     group(&words, end, leaders)
 }
@@ -70,45 +62,37 @@ fn join_if(
     k: u32,
     end: usize,
     x: u32,
-    followers: usize,
+    alone: bool,
     leaders: &mut [u16; ROWS],
-) -> usize
+) -> bool
     requires k_lt_column_bound { k < column_bound }
     requires end_le_row_bound { end ≤ row_bound }
     requires leaders_len { length leaders.old ≡ row_bound }
-    ensures { Led keys.now k end x leaders.old followers
+    ensures { Led keys.now k end x leaders.old alone
         → Led keys.now (suc k) end x leaders.new result }
 {
     if (x >> k) % 2 == 0 {
-        return followers;
+        return alone;
     }
     join(keys, k, end, leaders)
 }
 
-// The leaders of all rows on the left side x. It answers 0 exactly if every row leads itself, and ends as soon as
-// every row does.
-pub fn leaders_of(
-    keys: &[u16; SIZE],
-    n: u32,
-    end: usize,
-    x: u32,
-    leaders: &mut [u16; ROWS],
-) -> usize
+// The leaders of all rows on the left side x. It answers whether every row leads itself, and ends as soon as every row
+// does.
+pub fn leaders_of(keys: &[u16; SIZE], n: u32, end: usize, x: u32, leaders: &mut [u16; ROWS]) -> bool
     requires n_le_column_bound { n ≤ column_bound }
     requires end_le_row_bound { end ≤ row_bound }
     requires leaders_len { length leaders.old ≡ row_bound }
     ensures { Led keys.now n end x leaders.new result }
 {
-    let mut followers = lead_by_first(end, leaders);
-    let mut m: u32 = 0;
-    while m < n {
-        if followers == 0 {
-            return 0;
+    let mut alone = lead_by_first(end, leaders);
+    for m in 0..n {
+        if alone {
+            return true;
         }
-        followers = join_if(keys, m, end, x, followers, leaders);
-        m += 1;
+        alone = join_if(keys, m, end, x, alone, leaders);
     }
-    followers
+    alone
 }
 
 // Does every row have the key of its leader on member a? With the leaders on a left side: does it give member a?
@@ -119,13 +103,11 @@ fn gives(keys: &[u16; SIZE], leaders: &[u16; ROWS], a: u32, end: usize) -> bool
     ensures { (result ≡ true) ↔ Gives keys.now leaders.now a end }
 {
     let at = a as usize * ROWS;
-    let mut q: usize = 0;
-    while q < end {
+    for q in 0..end {
         let p = leaders[q] as usize;
         if keys[at + p] != keys[at + q] {
             return false;
         }
-        q += 1;
     }
     true
 }
@@ -162,10 +144,8 @@ fn given_members(keys: &[u16; SIZE], leaders: &[u16; ROWS], n: u32, end: usize, 
     ensures { GivenBelow keys.now leaders.now end wanted n result }
 {
     let mut given: u32 = 0;
-    let mut a: u32 = 0;
-    while a < n {
+    for a in 0..n {
         given = with_member(keys, leaders, a, end, wanted, given);
-        a += 1;
     }
     given
 }
@@ -178,7 +158,7 @@ pub fn given(keys: &[u16; SIZE], n: u32, end: usize, x: u32, wanted: u32) -> u32
     ensures { Given keys.now n end x wanted result }
 {
     let mut leaders = [0u16; ROWS];
-    if leaders_of(keys, n, end, x, &mut leaders) == 0 {
+    if leaders_of(keys, n, end, x, &mut leaders) {
         return wanted % power(n + 1);
     }
     given_members(keys, &leaders, n, end, wanted)
@@ -207,13 +187,11 @@ pub fn minimal_alone(keys: &[u16; SIZE], n: u32, end: usize, own: u32, x: u32) -
     ensures { result ≡ minimal_mask (key_view keys.now n end) own x }
 {
     let mut kept = given(keys, n, end, x, lacking(own, x));
-    let mut k: u32 = 0;
-    while k < n {
+    for k in 0..n {
         if kept == 0 {
             return 0;
         }
         kept = needing(keys, n, end, x, k, kept);
-        k += 1;
     }
     kept
 }

@@ -11,8 +11,8 @@ use lib.Dec.{eqb}
 use lib.ListN.{get_or, length, length-set, set}
 use lib.Seq.{get_or-set_same, get_or-set_other}
 use Rattle.columns.specs.Test.{pick}
-use Rattle.columns.proofs.Test.{if_eq_yes, if_eq_no}
 use Rattle.model.specs.Bounds.{row, row_bound}
+use Rattle.model.proofs.Truth.{true_is, false_is}
 use Rattle.leaders.specs.Keys.{key_at}
 use Rattle.search.specs.Strays.{same_right, strays, follows, LowerLeaders, MarkedMore, MarkedBelow, row_after}
 use Rattle.search.specs.Strays.{NoneBefore}
@@ -55,44 +55,45 @@ module _ (keys leaders : List ℕ) (a q : ℕ) where
 
 -- the marks
 module _ (keys leaders : List ℕ) (a : ℕ) where
-  pub marked_kept : (q : ℕ) (marks : List ℕ) {r : Bool} → length marks ≡ row_bound → r ≡ strays keys leaders a q
-      → not r ≡ true → MarkedMore keys leaders a q marks marks
-  marked_kept q marks l f e =
-      record { long = l; kept = λ i h. h; more = λ s. let k : ◌≡◌ {A = ℕ} 0 1 = cc in absurd (omega arith) }
+  pub marked_kept : (q : ℕ) (marks : List Bool) → length marks ≡ row_bound → strays keys leaders a q ≡ false
+      → MarkedMore keys leaders a q marks marks
+  marked_kept q marks l f =
+      record { long = l; kept = λ i h. h; more = λ s. absurd (false_is f (true_is s)) }
 
-  pub marked_one : (q : ℕ) (marks : List ℕ) → length marks ≡ row_bound → get_or leaders q 0 < row_bound
-      → MarkedMore keys leaders a q marks (set marks (get_or leaders q 0) 1)
+  pub marked_one : (q : ℕ) (marks : List Bool) → length marks ≡ row_bound → get_or leaders q 0 < row_bound
+      → MarkedMore keys leaders a q marks (set marks (get_or leaders q 0) true)
   marked_one q marks l h =
       record {
-        long = length-set marks (get_or leaders q 0) 1 ∙ l;
+        long = length-set marks (get_or leaders q 0) true ∙ l;
         kept = λ i m. at i m (ℕ_discrete i (get_or leaders q 0));
-        more = λ s. get_or-set_same marks (get_or leaders q 0) 1 0 (omega arith);
+        more = λ s. get_or-set_same marks (get_or leaders q 0) true false (omega arith);
       }
     where
-      at : (i : ℕ) → get_or marks i 0 ≡ 1 → Dec (i ≡ get_or leaders q 0) → get_or (set marks (get_or leaders q 0) 1) i 0 ≡ 1
+      at : (i : ℕ) → get_or marks i false ≡ true → Dec (i ≡ get_or leaders q 0)
+          → get_or (set marks (get_or leaders q 0) true) i false ≡ true
       at i m (yes e) =
-          subst (λ (j : ℕ). get_or (set marks (get_or leaders q 0) 1) j 0 ≡ 1) (sym e)
-          (get_or-set_same marks (get_or leaders q 0) 1 0 (omega arith))
-      at i m (no n) = get_or-set_other marks (get_or leaders q 0) i 1 0 n ∙ m
+          subst (λ (j : ℕ). get_or (set marks (get_or leaders q 0) true) j false ≡ true) (sym e)
+          (get_or-set_same marks (get_or leaders q 0) true false (omega arith))
+      at i m (no n) = get_or-set_other marks (get_or leaders q 0) i true false n ∙ m
 
-  pub marked_more : (q : ℕ) (before after : List ℕ) → MarkedBelow keys leaders a q before
+  pub marked_more : (q : ℕ) (before after : List Bool) → MarkedBelow keys leaders a q before
       → MarkedMore keys leaders a q before after → MarkedBelow keys leaders a (q + 1) after
   marked_more q before after h m r l s = at (ℕ_discrete r q)
     where
-      at : Dec (r ≡ q) → get_or after (get_or leaders r 0) 0 ≡ 1
+      at : Dec (r ≡ q) → get_or after (get_or leaders r 0) false ≡ true
       at (yes e) =
-          subst (λ (j : ℕ). get_or after (get_or leaders j 0) 0 ≡ 1) (sym e)
+          subst (λ (j : ℕ). get_or after (get_or leaders j 0) false ≡ true) (sym e)
           (m.more (subst (λ (j : ℕ). strays keys leaders a j ≡ true) e s))
       at (no n) = m.kept (get_or leaders r 0) (h r (omega arith) s)
 
 -- the row after p
-pub after_marked : (marks : List ℕ) (p end : ℕ) → get_or marks p 0 ≡ 1 → p + 1 ≡ row_after marks p end
+pub after_marked : (marks : List Bool) (p end : ℕ) → get_or marks p false ≡ true → p + 1 ≡ row_after marks p end
 unfolding row_after
-after_marked marks p end e = sym (if_eq_yes end e)
+after_marked marks p end e = sym (ap (λ (t : Bool). pick t (p + 1) end) e)
 
-pub after_end : (marks : List ℕ) (p end : ℕ) → (get_or marks p 0 ≡ 1 → ⊥) → end ≡ row_after marks p end
+pub after_end : (marks : List Bool) (p end : ℕ) → get_or marks p false ≡ false → end ≡ row_after marks p end
 unfolding row_after
-after_end marks p end n = sym (if_eq_no (p + 1) n)
+after_end marks p end e = sym (ap (λ (t : Bool). pick t (p + 1) end) e)
 
 -- how far the search has come, where no leader is above its row and each that a row strays from is marked
 module _ (keys leaders : List ℕ) (a end : ℕ) (led : LowerLeaders end leaders) where
@@ -112,13 +113,13 @@ module _ (keys leaders : List ℕ) (a end : ℕ) (led : LowerLeaders end leaders
       at true f = let k : ◌≡◌ {A = ℕ} 0 1 = cc (eq-eqb r r refl) in omega arith
       at false f = let k : ◌≡◌ {A = ℕ} 0 1 = cc (eq-eqb (key_at keys a r) (key_at keys a r) refl) in omega arith
 
-  pub before_begun : (marks : List ℕ) (p q : ℕ) → MarkedBelow keys leaders a end marks → q ≡ row_after marks p end
+  pub before_begun : (marks : List Bool) (p q : ℕ) → MarkedBelow keys leaders a end marks → q ≡ row_after marks p end
       → p < end → NoneBefore keys leaders a end p 0 → NoneBefore keys leaders a end p q
   before_begun marks p q marked e l h r k s = at (h r k s)
     where
       first : p ≡ get_or leaders r 0 → q ≤ r
       first f =
-          let m : get_or marks p 0 ≡ 1 = subst (λ (j : ℕ). get_or marks j 0 ≡ 1) (sym f) (marked r k s) in
+          let m : get_or marks p false ≡ true = subst (λ (j : ℕ). get_or marks j false ≡ true) (sym f) (marked r k s) in
           let low = led.lower r k in
           omega (arith, after_marked marks p end m, apart r s)
 

@@ -13,15 +13,8 @@ ghost use Rattle.search.specs.Strays.{LowerLeaders, strays as strays_of, MarkedM
 ghost use Rattle.search.specs.Strays.{rows_found, follows as follows_of, row_after};
 
 use leaders::{ROWS, SIZE};
-use model::ROW;
+use model::{ROW, RowPair};
 use partition::leaders_of;
-
-// The first breaking pair, the lower row first, or that there is none.
-#[derive(Clone, Copy)]
-pub enum Found {
-    Pair { first: u32, second: u32 },
-    Nothing,
-}
 
 // Does row q not agree on the right side with its leader?
 fn strays(keys: &[u16; SIZE], leaders: &[u16; ROWS], right: u32, q: usize) -> bool
@@ -42,18 +35,16 @@ fn mark_leader(
     leaders: &[u16; ROWS],
     right: u32,
     q: usize,
-    marks: &mut [u8; ROWS],
+    marks: &mut [bool; ROWS],
 )
     requires q_lt_row_bound { (q < row_bound) × (get_or leaders.now q 0 < row_bound) × ((right ≡ row → ⊥) → right < column_bound) }
     requires marks_len { length marks.old ≡ row_bound }
     ensures { MarkedMore keys.now leaders.now right q marks.old
         marks.new }
 {
-    if !strays(keys, leaders, right, q) {
-        return;
+    if strays(keys, leaders, right, q) {
+        marks[leaders[q] as usize] = true;
     }
-    let p = leaders[q] as usize;
-    marks[p] = 1;
 }
 
 // Marks each leader that a row strays from. A mark too many would only cost time.
@@ -62,26 +53,24 @@ fn mark_leaders(
     leaders: &[u16; ROWS],
     right: u32,
     end: usize,
-    marks: &mut [u8; ROWS],
+    marks: &mut [bool; ROWS],
 )
     requires { LowerLeaders end leaders.now × ((right ≡ row → ⊥) → right < column_bound)
         × (length marks.old ≡ row_bound) }
     ensures { (length marks.new ≡ row_bound)
         × MarkedBelow keys.now leaders.now right end marks.new }
 {
-    let mut q: usize = 0;
-    while q < end {
+    for q in 0..end {
         mark_leader(keys, leaders, right, q, marks);
-        q += 1;
     }
 }
 
 // The row after p where p is marked, and else the end.
-fn row_after(marks: &[u8; ROWS], p: usize, end: usize) -> usize
+fn row_after(marks: &[bool; ROWS], p: usize, end: usize) -> usize
     requires { p < row_bound }
     ensures { result ≡ row_after marks.now p end }
 {
-    if marks[p] == 1 {
+    if marks[p] {
         return p + 1;
     }
     end
@@ -102,42 +91,35 @@ fn follows(keys: &[u16; SIZE], leaders: &[u16; ROWS], right: u32, p: usize, q: u
 fn first_stray(
     keys: &[u16; SIZE],
     leaders: &[u16; ROWS],
-    marks: &[u8; ROWS],
+    marks: &[bool; ROWS],
     right: u32,
     end: usize,
-) -> Found
+) -> Option<RowPair>
     requires lower_leaders { LowerLeaders end leaders.now × ((right ≡ row → ⊥) → right < column_bound) }
     requires marked_below { MarkedBelow keys.now leaders.now right end marks.now }
     ensures { FirstStray keys.now leaders.now right end result }
 {
-    let mut p: usize = 0;
-    let found = 'rows: loop {
-        if end <= p {
-            break 'rows Found::Nothing;
-        }
-        let mut q = row_after(marks, p, end);
-        while q < end {
+    for p in 0..end {
+        for q in row_after(marks, p, end)..end {
             if follows(keys, leaders, right, p, q) {
-                break 'rows Found::Pair {
+                return Some(RowPair {
                     first: p as u32,
                     second: q as u32,
-                };
+                });
             }
-            q += 1;
         }
-        p += 1;
-    };
-    found
+    }
+    None
 }
 
-// The first breaking pair of the left side x and the right side.
-pub fn first_pair(keys: &[u16; SIZE], n: u32, end: usize, x: u32, right: u32) -> Found
+// The first breaking pair of the left side x and the right side, the lower row first, or that there is none.
+pub fn first_pair(keys: &[u16; SIZE], n: u32, end: usize, x: u32, right: u32) -> Option<RowPair>
     requires { (n ≤ column_bound) × (end ≤ row_bound) × ((right ≡ row → ⊥) → right < column_bound) }
     ensures { rows_found result ≡ first_pair (key_view keys.now n end) x right }
 {
     let mut rows = [0u16; ROWS];
     leaders_of(keys, n, end, x, &mut rows);
-    let mut marks = [0u8; ROWS];
+    let mut marks = [false; ROWS];
     mark_leaders(keys, &rows, right, end, &mut marks);
     first_stray(keys, &rows, &marks, right, end)
 }

@@ -1,34 +1,18 @@
--- The answers of `partition::lead_by_first`.
-use Prim.Native.Nat.{ℕ, ◌-◌, ◌≤◌}
-use mathlib.Core.Path.{◌≡◌, refl, subst, ◌∙◌}
-use mathlib.Core.List.{List}
+-- The answer of `partition::lead_by_first`.
+use mathlib.Core.Path.{◌≡◌, refl, ◌∙◌}
 use native.Mathlib.Omega.{arith}
-use lib.ListN.{length}
+use Rattle.std.proofs.Common.{◌++◌, length, drop, length-append, length-drop}
+use Rattle.std.proofs.lemmas.List.{get_or_append_left, length-take-le}
 use Rattle.model.specs.Bounds.{row_bound}
-use Rattle.filled.proofs.Filled.{filled_none, filled_more, filled_first}
-use Rattle.partition.specs.Partition.{Led}
 use Rattle.partition.proofs.Leading.{led_begun}
-use Rattle.partition.proofs.lead_by_first.Invariants.{LedByFirst}
 use Rattle.partition.proofs.lead_by_first.Goals as goal
 
-done : (end : ℕ) (before leaders : List ℕ) (followers q : ℕ) → LedByFirst end before leaders followers q
-    → length before ≡ row_bound → end ≤ q → (keys : List ℕ) (x : ℕ) → Led keys 0 end x leaders followers
-done end before leaders followers q f long h keys x =
-    subst (Led keys 0 end x leaders) others
-    (led_begun keys end x leaders (f.zeros.same_length ∙ long) (λ i l. filled_first f.zeros i (omega arith)))
-  where
-    others : end - 1 ≡ followers
-    others = omega (arith, f.within, f.others)
-
-pub loop-q-init : goal.loop-q-init
-loop-q-init c = record { within = omega arith; others = refl; zeros = filled_none }
-
-pub loop-q-preserved : goal.loop-q-preserved
-loop-q-preserved c = record {
-  within = omega arith;
-  others = omega arith;
-  zeros = filled_more c.loop-q.invariant.zeros (omega arith) (omega arith) (omega arith) refl;
-}
-
 pub returns : goal.returns
-returns c = done _ _ _ _ _ c.loop-q.invariant c.requires.leaders_len (omega arith)
+returns c = λ keys x.
+    let l = length-take-le c.args.end c.args.leaders.now (omega arith) in
+    let d = length-drop c.args.end c.args.leaders.now in
+    let e : length (c.fill.new.self ++ drop c.args.end c.args.leaders.now) ≡ row_bound =
+    omega (arith, l, d, c.fill.ensures.len, length-append c.fill.new.self (drop c.args.end c.args.leaders.now)) in
+    led_begun keys c.args.end x _ e (λ q h.
+    get_or_append_left c.fill.new.self _ 0 q (omega (arith, l, c.fill.ensures.len))
+    ∙ c.fill.ensures.clones q 0 (omega (arith, l)) refl)

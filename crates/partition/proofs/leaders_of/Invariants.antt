@@ -1,10 +1,6 @@
 -- `partition::leaders_of` meets its contract. The invariant: the rows have their leaders by the first m members.
-use Prim.Native.Nat.{◌-◌, ◌≤◌}
 use Rattle.partition.specs.Partition.{Led}
 use Rattle.partition.proofs.leaders_of.Given as goal
 
 abbrev pub invariant-loop-m : goal.invariant-loop-m
-invariant-loop-m l = (l.m ≤ l.n) × Led l.keys l.m l.end l.x l.leaders l.followers
-
-abbrev pub decreases-loop-m : goal.decreases-loop-m
-decreases-loop-m l = l.n - l.m
+invariant-loop-m l = Led l.keys l.m l.end l.x l.leaders l.alone

@@ -5,7 +5,7 @@ use mathlib.Core.Logic.{◌↔◌}
 use mathlib.Core.List.{List}
 use native.Mathlib.Omega.{arith}
 use Rattle.columns.specs.Set.{bit, without_of}
-use Rattle.columns.proofs.Bits.{bit_one, bit_power_le, without_some}
+use Rattle.columns.proofs.Bits.{bit_one, without_some}
 use Rattle.model.specs.View.{In}
 use Rattle.table.specs.Words.{lacking_of}
 use Rattle.table.proofs.Bits.{bit_lacking}
@@ -30,12 +30,8 @@ module _ (keys : List ℕ) (n end x k rights p g r : ℕ) (i : In k x) (is : p �
             omega arith,
       )
 
-pub overflow_sub-x : goal.overflow_sub-x
-overflow_sub-x c = omega (arith, c.power.ensures, bit_power_le _ _ (bit_one _ _ c.if-x-k-eq0.false))
-
 pub returns : goal.returns
 returns c =
-    let s = c in
-    needed s.args.keys.now _ _ _ _ _ _ _ _ (bit_one _ _ c.if-x-k-eq0.false)
+    needed c.args.keys.now _ _ _ _ _ _ _ _ (bit_one _ _ c.if-x-k-eq0.false)
     c.power.ensures
     c.given.ensures c.lacking.ensures

@@ -4,20 +4,10 @@ use Rattle.search.proofs.Pairs.{led_lower, stray_first}
 use Rattle.search.proofs.first_pair.Goals as goal
 
 pub mark_leaders-requires : goal.mark_leaders-requires
-mark_leaders-requires c =
-    let s = c.requires in
-    (led_lower s.1 c.leaders_of.ensures, s.2, search rules)
+mark_leaders-requires c = (led_lower c.requires.1 c.leaders_of.ensures, c.requires.2, search rules)
 
-pub first_stray-requires : goal.first_stray-requires
-first_stray-requires c =
-    let s = c.requires in record {
-      lower_leaders = (led_lower s.1 c.leaders_of.ensures, s.2);
-      marked_below = c.mark_leaders.ensures.1;
-    }
+pub first_stray-requires-clause-lower_leaders : goal.first_stray-requires-clause-lower_leaders
+first_stray-requires-clause-lower_leaders c = (led_lower c.requires.1 c.leaders_of.ensures, c.requires.2)
 
 pub returns : goal.returns
-returns c =
-    let a = c.args in
-    stray_first a.keys.now _ a.n a.end a.x a.right
-    c.leaders_of.ensures.leads
-    c.first_stray.result c.first_stray.ensures
+returns c = stray_first _ _ _ _ _ _ c.leaders_of.ensures.leads _ c.first_stray.ensures

@@ -1,5 +1,4 @@
 -- `search::mark_leaders` meets its contract: the rows so far are looked at.
-use Prim.Native.Nat.{◌-◌, ◌≤◌}
 use mathlib.Core.Path.{◌≡◌}
 use lib.ListN.{length}
 use Rattle.model.specs.Bounds.{row_bound}
@@ -7,7 +6,4 @@ use Rattle.search.specs.Strays.{MarkedBelow}
 use Rattle.search.proofs.mark_leaders.Given as goal
 
 abbrev pub invariant-loop-q : goal.invariant-loop-q
-invariant-loop-q l = (l.q ≤ l.end) × (length l.marks ≡ row_bound) × MarkedBelow l.keys l.leaders l.right l.q l.marks
-
-abbrev pub decreases-loop-q : goal.decreases-loop-q
-decreases-loop-q l = l.end - l.q
+invariant-loop-q l = (length l.marks ≡ row_bound) × MarkedBelow l.keys l.leaders l.right l.q l.marks
