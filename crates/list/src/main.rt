@@ -59,7 +59,8 @@ fn print<W: Write>(to: &mut W, file: &[u8], out: &mut [u8], work: &mut [u32]) ->
     Ok(sum)
 }
 
-// Reads until the bytes are full or the input ends, and answers how many bytes it put, from the first on.
+// Reads until the bytes are full or the input ends, and answers how many bytes it put, from the first on: the library's
+// `read_exact` fails at the end, and its `read_to_end` asks for heap.
 fn read_front<R: Read>(from: &mut R, bytes: &mut [u8]) -> io::Result<usize>
     ensures within { IfOk result (λ n. n ≤ length bytes.new) }
     ensures taken { IfOk result (λ n. Consumes (R.remaining from.old) (R.remaining from.new) (take n bytes.new)) }

@@ -1,17 +1,16 @@
 -- What a listing call with a run by value gives on an accepted catalogue, from a place up to the last and with a
 -- budget for all sets: it is never refused, and its first records are the entries of the sets that it passed.
-use Prim.Native.Nat.{ℕ, ◌+◌, ◌-◌, ◌≤◌, ◌<◌}
-use mathlib.Core.Path.{◌≡◌, sym, ap, subst, ◌∙◌}
+use Prim.Native.Nat.{ℕ, ◌+◌, ◌≤◌, ◌<◌}
+use mathlib.Core.Path.{◌≡◌, refl, sym, ap, subst, ◌∙◌}
 use mathlib.Core.List.{List, [], ◌∷◌, ◌++◌}
 use native.Mathlib.Omega.{arith}
-use lib.ListN.{length, take, drop, get_or, replicate, length-replicate, length-drop, length-take}
+use lib.ListN.{length, take, drop, get_or, replicate, length-replicate, length-drop}
 use lib.Seq.{take-take, take_at}
 use Rattle.columns.specs.Bound.{column_bound}
 use Rattle.columns.proofs.Test.{if_lt_no}
 use Rattle.model.specs.Bounds.{work_bound}
 use Rattle.model.specs.Refusal.{number}
 use Rattle.model.specs.Reply.{answered, refused, list_reply}
-use Rattle.model.specs.Catalogue.{sets}
 use Rattle.model.specs.Calls.{flat, passed, written}
 use Rattle.model.specs.Listing.{cells, ordinary}
 use Rattle.model.specs.Check.{check_code}
@@ -19,8 +18,8 @@ use Rattle.model.specs.List.{list_code, ListMeaning}
 use Rattle.model.specs.Entry.{entry}
 use Rattle.model.specs.declared.Entry.{Entry}
 use Rattle.model.specs.declared.Refusal.{Refusal}
-use Rattle.model.specs.declared.ListAnswer.{ListAnswer}
-use Rattle.model.specs.declared.ListAnswer.TheVariants as answer
+use Rattle.model.specs.declared.Progress.{Progress}
+use Rattle.std.specs.Prelude.{Result, Ok, Err, IsOk}
 use Rattle.model.proofs.Calls.{call_none, passed_fit_at}
 use Rattle.model.proofs.Stops.{passed_in_range, written_fits}
 use Rattle.model.proofs.Grounds.{reply_answered}
@@ -66,7 +65,7 @@ module _ (cat : List ℕ) (last : ℕ) (h : Listable cat last) (place : ℕ) (in
   cs = cells (ordinary cat)
 
   -- the statement about the call, with room for r records
-  abbrev Call : ListAnswer → List Entry → List ℕ → Type 0
+  abbrev Call : Result Progress Refusal → List Entry → List ℕ → Type 0
   Call a run work_then =
       ListMeaning cat (seen place last (replicate r (entry 0 0 0)) work (list_reply a) (take r run) work_then)
 
@@ -91,7 +90,7 @@ module _ (cat : List ℕ) (last : ℕ) (h : Listable cat last) (place : ℕ) (in
       (length work)
       ∙ call_none cs place last (length (replicate r (entry 0 0 0))) (length work) enough places (λ _ _. wide place)
 
-  pub never_refused : (why : Refusal) (run : List Entry) (work_then : List ℕ) → Call (answer.Refused why) run work_then
+  pub never_refused : (why : Refusal) (run : List Entry) (work_then : List ℕ) → Call (Err why) run work_then
       → ⊥
   never_refused why run work_then o = refused_is_none (number why) _ (o.reply ∙ sym (reply_answered _ no_code))
 
@@ -101,12 +100,12 @@ module _ (cat : List ℕ) (last : ℕ) (h : Listable cat last) (place : ℕ) (in
   abbrev passes : ℕ
   passes = passed last (length rows) (drop place cs)
 
-  pub ran_room : (reached k count : ℕ) (run : List Entry) (work_then : List ℕ) → r ≤ run_bound
-      → Call (answer.Listed reached k count) run work_then → Ran cs last place reached count run
+  pub ran_room : (p : Progress) (run : List Entry) (work_then : List ℕ) → r ≤ run_bound
+      → Call (Ok p) run work_then → Ran cs last place p.place p.count run
   unfolding written
-  ran_room reached k count run work_then small o =
+  ran_room done run work_then small o =
       let said =
-      answered_is reached k count (place + passes) passes (length (written last (length rows) (drop place cs)))
+      answered_is done.place done.passed done.count (place + passes) passes (length (written last (length rows) (drop place cs)))
       (o.reply ∙ sym (reply_answered _ no_code)) in
       let long = length-replicate r (entry 0 0 0) in
       let few = written_fits last (length rows) (drop place cs) in
@@ -123,38 +122,32 @@ module _ (cat : List ℕ) (last : ℕ) (h : Listable cat last) (place : ℕ) (in
             (arith, passed_fit_at last (length rows) place cs (omega (arith, lastly)) (omega arith) (wide place));
         fits = omega arith;
         counted = c;
-        records = first_records count r (flat (take passes (drop place cs))) _ run (o.run ∙ run_answered _ _ _ no_code)
+        records = first_records done.count r (flat (take passes (drop place cs))) _ run (o.run ∙ run_answered _ _ _ no_code)
             c (omega arith);
       }
 
 -- the same for the run by value, where the statement is that of its contract
 module _ (cat : List ℕ) (last : ℕ) (h : Listable cat last) (place : ℕ) (in_range : place ≤ last) (work : List ℕ)
     (enough : work_bound ≤ length work) where
-  filled_call : (a : ListAnswer) (run : List Entry) (work_then : List ℕ)
+  filled_call : (a : Result Progress Refusal) (run : List Entry) (work_then : List ℕ)
       → FilledBy cat place last run_bound work a run work_then
       → Call cat last h place in_range work enough (cap run_bound) (omega (arith, room_whole)) a run work_then
   filled_call a run work_then f = f.listed
 
-  pub filled_answers : (why : Refusal) (a : ListAnswer) (run : List Entry) (work_then : List ℕ)
-      → FilledBy cat place last run_bound work a run work_then → a ≡ answer.Refused why → ⊥
-  filled_answers why a run work_then f e =
-      never_refused cat last h place in_range work enough (cap run_bound) (omega (arith, room_whole)) why run work_then
-      (filled_call (answer.Refused why) run work_then
-      (subst (λ (x : ListAnswer). FilledBy cat place last run_bound work x run work_then) e f))
+  -- it is not refused
+  pub filled_answers : (a : Result Progress Refusal) (run : List Entry) (work_then : List ℕ)
+      → FilledBy cat place last run_bound work a run work_then → IsOk a
+  filled_answers (Ok p) run work_then f = refl
+  filled_answers (Err why) run work_then f =
+      absurd
+      (never_refused cat last h place in_range work enough (cap run_bound) (omega (arith, room_whole)) why run work_then
+      (filled_call (Err why) run work_then f))
 
-  pub ran : (reached k count : ℕ) (a : ListAnswer) (run : List Entry) (work_then : List ℕ)
-      → FilledBy cat place last run_bound work a run work_then → a ≡ answer.Listed reached k count
-      → Ran (cells (ordinary cat)) last place reached count run
-  ran reached k count a run work_then f e =
-      ran_room cat last h place in_range work enough (cap run_bound) (omega (arith, room_whole)) reached k count run
-      work_then
+  pub ran : (p : Progress) (a : Result Progress Refusal) (run : List Entry) (work_then : List ℕ)
+      → FilledBy cat place last run_bound work a run work_then → a ≡ Ok p
+      → Ran (cells (ordinary cat)) last place p.place p.count run
+  ran p a run work_then f e =
+      ran_room cat last h place in_range work enough (cap run_bound) (omega (arith, room_whole)) p run work_then
       (omega (arith, room_whole))
-      (filled_call (answer.Listed reached k count) run work_then
-      (subst (λ (x : ListAnswer). FilledBy cat place last run_bound work x run work_then) e f))
-
--- the records that are entries are among those of the run
-pub ran_within : (cs : List (List Entry)) (last place reached count : ℕ) (run : List Entry)
-    → Ran cs last place reached count run → count ≤ length run
-ran_within cs last place reached count run g =
-    let counted = g.counted in
-    omega (arith, length-take count run, ap length g.records)
+      (filled_call (Ok p) run work_then
+      (subst (λ (x : Result Progress Refusal). FilledBy cat place last run_bound work x run work_then) e f))

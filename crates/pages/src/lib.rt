@@ -1,5 +1,5 @@
 // Not for callers: what the listing program prints, page by page: a page is the lines of one run of entries, and the
-// first one has the head line before them.
+// first one has the head line before them. No listing call made here is refused, so answers are unwrapped.
 // Relies on `listing` for the entries, on `grounds` and `layout` for the check and on `page_lines` for what is put.
 // Called by `list`.
 #![tactic(auto)]
@@ -12,7 +12,7 @@ ghost use Rattle.model.specs.Text.{listing_text, answer_text};
 ghost use Rattle.pages.specs.Pages.{rest, Lent, Listable, Paged};
 
 use listing::{RUN_BOUND, list_filled};
-use model::{FILE_BOUND, ListAnswer};
+use model::FILE_BOUND;
 use page_lines::{put_head, put_refused, put_run};
 
 // How many bytes stand at the start of the buffer, and from which place on the lines are still to come: none at the
@@ -35,18 +35,9 @@ fn count_from(cat: &[u8], place: u32, last: u32, before: u32, work: &mut [u32]) 
     let mut sum = before as u64;
     while from < last {
         let filled = list_filled(cat, from, last, RUN_BOUND, work);
-        let answer = filled.answer;
-        match answer {
-            ListAnswer::Listed {
-                place: next,
-                passed: _,
-                count,
-            } => {
-                sum += count as u64;
-                from = next;
-            }
-            ListAnswer::Refused(_) => return sum,
-        }
+        let done = filled.answer.unwrap();
+        sum += done.count as u64;
+        from = done.place;
     }
     sum
 }
@@ -59,28 +50,12 @@ fn head_page(cat: &[u8], last: u32, out: &mut [u8], work: &mut [u32]) -> Page
     ensures { Paged cat.now (listing_text cat.now) out.new result }
 {
     let filled = list_filled(cat, 0, last, RUN_BOUND, work);
-    let answer = filled.answer;
-    match answer {
-        ListAnswer::Listed {
-            place,
-            passed: _,
-            count,
-        } => {
-            let entries = count_from(cat, place, last, count, work);
-            let at = put_head(out, layout::tables(cat), last, entries);
-            let len = put_run(out, at, filled, count);
-            Page {
-                len: len,
-                place: place,
-                last: last,
-            }
-        }
-        ListAnswer::Refused(_) => Page {
-            len: 0,
-            place: last,
-            last: last,
-        },
-    }
+    let done = filled.answer.unwrap();
+    let place = done.place;
+    let entries = count_from(cat, place, last, done.count, work);
+    let at = put_head(out, layout::tables(cat), last, entries);
+    let len = put_run(out, at, &filled.run[..done.count as usize]);
+    Page { len, place, last }
 }
 
 // The first page for the bytes of an input: a line that says why it has no listing, or the first lines of its listing.
@@ -91,21 +66,22 @@ pub fn first_page(file: &[u8], out: &mut [u8], work: &mut [u32]) -> Page
     if FILE_BOUND < file.len() {
         let len = text::put_word(out, 0, b"too long\n");
         return Page {
-            len: len,
+            len,
             place: 0,
             last: 0,
         };
     }
-    let code = grounds::check_code(file);
-    if code != 0 {
-        let len = put_refused(out, code);
-        return Page {
-            len: len,
-            place: 0,
-            last: 0,
-        };
+    match grounds::check(file) {
+        Ok(()) => head_page(file, layout::sets(file), out, work),
+        Err(why) => {
+            let len = put_refused(out, u32::from(why));
+            Page {
+                len,
+                place: 0,
+                last: 0,
+            }
+        }
     }
-    head_page(file, layout::sets(file), out, work)
 }
 
 // The page behind another: the lines of the run from its place on.
@@ -118,27 +94,14 @@ pub fn next_page(cat: &[u8], page: Page, out: &mut [u8], work: &mut [u32]) -> Pa
     ensures onward { page.place < result.place }
     ensures same { result.last ≡ page.last }
 {
-    let from = page.place;
     let last = page.last;
-    let filled = list_filled(cat, from, last, RUN_BOUND, work);
-    let answer = filled.answer;
-    match answer {
-        ListAnswer::Listed {
-            place: reached,
-            passed: _,
-            count,
-        } => {
-            let end = put_run(out, 0, filled, count);
-            Page {
-                len: end,
-                place: reached,
-                last: last,
-            }
-        }
-        ListAnswer::Refused(_) => Page {
-            len: 0,
-            place: last,
-            last: last,
-        },
+    let filled = list_filled(cat, page.place, last, RUN_BOUND, work);
+    let done = filled.answer.unwrap();
+    let place = done.place;
+    let end = put_run(out, 0, &filled.run[..done.count as usize]);
+    Page {
+        len: end,
+        place,
+        last,
     }
 }
