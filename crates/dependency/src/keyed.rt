@@ -12,7 +12,7 @@ ghost use Rattle.dependency.specs.Posed.{Posed, members_asked, right_bit};
 
 use bits::power;
 use keys::lay;
-use layout::{rows, visible};
+use layout::{Target, rows, visible};
 use leaders::SIZE;
 use model::{ROW, RowPair};
 use partition::given;
@@ -47,13 +47,8 @@ fn lay_question(cat: &[u8], target: u32, left: u32, right: u32, keys: &mut [u16;
     ensures { Keyed (view cat.now target) (members_asked left right) (visible_of cat.now target)
         (rows_of cat.now target) keys.new }
 {
-    lay(
-        cat,
-        target,
-        visible(cat, target),
-        members_of(left, right),
-        keys,
-    );
+    let table = target;
+    lay(Target { cat, table }, members_of(left, right), keys);
 }
 
 // Does the dependency hold?

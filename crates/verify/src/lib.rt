@@ -6,7 +6,8 @@
 // `acceptance` has the theorems about what it accepts. Called by hosts and programs.
 #![tactic(auto)]
 
-ghost use Rattle.std.specs.Prelude.{◌≡◌, true, ◌↔◌};
+ghost use Rattle.std.specs.Prelude.{◌<◌, ◌≡◌, true, ◌↔◌};
+ghost use Rattle.model.specs.Catalogue.{tables as tables_of};
 ghost use Rattle.model.specs.Check.{Accepted};
 ghost use Rattle.model.specs.Evidence.{TrueRecord, records_held};
 ghost use Rattle.model.specs.Reply.{verify_reply};
@@ -18,7 +19,7 @@ ghost use Rattle.verify.specs.Judged.{judged_meaning};
 
 use coverage::target_covered;
 use evidence::EvidenceRecords;
-use layout::tables;
+use layout::{Target, tables};
 use marks::PackedEntries;
 use model::{EVIDENCE_BYTES, Refusal, Verified};
 use records::target_true;
@@ -36,7 +37,11 @@ fn records_true(cat: &[u8], bytes: &[u8], records: EvidenceRecords) -> bool
     if !records::all_known(records, end) {
         return false;
     }
-    (0..end).all(|table| target_true(Target { cat, table }, records))
+    (0..end).all(
+        |table|
+            requires { Accepted cat.now × (table < tables_of cat.now) }
+        { target_true(Target { cat, table }, records) },
+    )
 }
 
 // 18: is every entry sound?
@@ -48,7 +53,11 @@ fn entries_sound(cat: &[u8], list: PackedEntries) -> bool
     if !soundness::all_known(list, end) {
         return false;
     }
-    (0..end).all(|table| target_sound(Target { cat, table }, list))
+    (0..end).all(
+        |table|
+            requires { Accepted cat.now × (table < tables_of cat.now) }
+        { target_sound(Target { cat, table }, list) },
+    )
 }
 
 // 19: is every backed set covered, where all entries are sound and all records true?
@@ -58,7 +67,12 @@ fn sets_covered(cat: &[u8], list: PackedEntries, records: EvidenceRecords) -> bo
     ensures { (result ≡ true) ↔ CoveredSets cat.now (entries_of list.entry) (records_of records.entry) }
 {
     let end = u32::from(tables(cat));
-    (0..end).all(|table| target_covered(Target { cat, table }, list, records))
+    (0..end).all(
+        |table|
+            requires { Accepted cat.now × (table < tables_of cat.now) × SoundEntries cat.now (entries_of list)
+                × Each (TrueRecord cat.now) (records_of records) }
+        { target_covered(Target { cat, table }, list, records) },
+    )
 }
 
 // What is answered where neither the catalogue nor the list is refused: 17 over all records, then 18 over all entries,
