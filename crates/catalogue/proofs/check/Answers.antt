@@ -1,5 +1,5 @@
 -- `catalogue::check` meets its contract: a ground is the refusal; else tables and sets are told.
-use mathlib.Core.Path.{refl, sym}
+use mathlib.Core.Path.{refl}
 use native.Mathlib.Omega.{arith}
 use Rattle.columns.proofs.Test.{is_if_eq}
 use Rattle.model.specs.Reply.{reply_of, check_reply}
