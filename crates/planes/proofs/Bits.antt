@@ -94,6 +94,3 @@ low_power k p h e = omega (arith, pow-lt {i = k} {j = 5} h)
 
 pub mask_fits : (p q : ℕ) → p < 32 → q ≡ 2 ^ p → q ≤ 2 ^ 31
 mask_fits p q h e = omega (arith, pow_mono {i = p} {j = 31} (omega arith))
-
-pub clear_is : (k p q : ℕ) → p ≡ 2 ^ k → q ≡ 2 ^ p → 4294967295 / (q + 1) ≡ clear_of k
-clear_is k p q ep eq = ap (λ (z : ℕ). 4294967295 / (z + 1)) (eq ∙ ap (λ (z : ℕ). 2 ^ z) ep)

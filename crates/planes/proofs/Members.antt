@@ -6,10 +6,9 @@ use mathlib.Core.Bool.{true, false}
 use mathlib.Core.Logic.{◌↔◌}
 use native.Mathlib.Omega.{arith}
 use lib.Bits.{bit_and}
-use Rattle.columns.specs.Set.{bit}
 use Rattle.model.proofs.Truth.{true_is}
 use Rattle.table.specs.Words.{Above, Narrow}
-use Rattle.table.proofs.Reading.{NarrowBut, narrow_none, narrow_passed, narrow_all, next_member, above_passed}
+use Rattle.table.proofs.Reading.{NarrowBut, narrow_passed, next_member, above_passed}
 
 -- with `left` still to pass
 pub record NarrowSoFar (mark : ℕ → ℕ) (x a left : ℕ) : Type 0 where
@@ -17,9 +16,6 @@ pub record NarrowSoFar (mark : ℕ → ℕ) (x a left : ℕ) : Type 0 where
   pub read : NarrowBut mark x left a
 
 module _ (mark : ℕ → ℕ) (x a : ℕ) where
-  pub narrow_begun : mark x ≡ 0 → bit x a ≡ 0 → NarrowSoFar mark x a x
-  narrow_begun g o = record { within = λ k i. i; read = narrow_none mark x a g o }
-
   pub narrow_more : (left : ℕ) → 0 < left → NarrowSoFar mark x a left
       → mark (x - (left - bit_and left (left - 1))) ≡ 1 → NarrowSoFar mark x a (bit_and left (left - 1))
   narrow_more left h d b =
@@ -38,10 +34,6 @@ module _ (mark : ℕ → ℕ) (x a : ℕ) where
       let w = next_member x left h d.within in
       let k = w.0 in
       omega (arith, ap mark w.1.less, b, f.spare k (d.within k w.1.in_it))
-
-  -- every member is passed
-  pub narrow_done : (left : ℕ) → left ≡ 0 → NarrowSoFar mark x a left → Narrow mark x a
-  narrow_done left e d = narrow_all mark x a left e d.read
 
   pub not_narrow : (Narrow mark x a → ⊥) → (false ≡ true) ↔ Narrow mark x a
   not_narrow n = (λ e. absurd (true_is e), λ f. absurd (n f))

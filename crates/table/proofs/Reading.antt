@@ -147,11 +147,3 @@ reading_done ws x own left r e d a = (
   λ b. let f = (d.mask a).0 b in (f.0, narrow_all (mark_at ws a) x a left e f.1),
   λ f. (d.mask a).1 (f.0, narrow_but (mark_at ws a) x a left f.1),
 )
-
--- nothing is left to read
-pub reading_none : (ws : List ℕ) (x own left r : ℕ) → r ≡ 0 → Reading ws x own left r
-    → (a : ℕ) → (bit 0 a ≡ 1) ↔ ReadOff ws x own a
-reading_none ws x own left r e d a = (
-  λ b. absurd (omega (arith, bit_none a)),
-  λ f. sym (ap (λ (z : ℕ). bit z a) e) ∙ (d.mask a).1 (f.0, narrow_but (mark_at ws a) x a left f.1),
-)

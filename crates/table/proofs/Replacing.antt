@@ -2,7 +2,7 @@
 use Prim.Native.Nat.{ℕ, zero, suc, ◌+◌, ◌-◌, ◌*◌, ◌/◌, ◌%◌, ◌^◌, ◌≤◌, ◌<◌}
 use mathlib.Core.Path.{◌≡◌, refl, ap, ap₂, ◌∙◌}
 use mathlib.Core.List.{List}
-use native.Mathlib.Nat.{add-mod_right, zero-mod}
+use native.Mathlib.Nat.{add-mod_right}
 use native.Mathlib.Numerals.{add-one}
 use native.Mathlib.Omega.{arith}
 use lib.Bits.{bit_or, or_zero_l, or_zero_r, or_lt, or_block}
@@ -41,19 +41,6 @@ pub record Replacing (n m end start : ℕ) (f : ℕ → ℕ) (before after : Lis
   pub same_length : length after ≡ length before
   pub aligned : start % 2 ^ m ≡ 0
   pub words : Filled 0 start f before after
-
-pub replacing_begun : (n m end : ℕ) (f : ℕ → ℕ) (ws : List ℕ) → end ≡ 2 ^ n → m ≤ n → 2 ^ n ≤ length ws
-    → Replacing n m end 0 f ws ws
-replacing_begun n m end f ws e h l =
-    record {
-      up_to = omega arith;
-      is_end = e;
-      size_below = h;
-      enough = l;
-      same_length = refl;
-      aligned = zero-mod (2 ^ m);
-      words = filled_none;
-    }
 
 pub replacing_fits : (n m end start : ℕ) (f : ℕ → ℕ) (before after : List ℕ) → start < end
     → Replacing n m end start f before after → (0 < 2 ^ m) × (start + 2 ^ m ≤ end) × (end ≤ length after)
