@@ -1,17 +1,15 @@
 -- Laws of chains: the last leader of a chain, the walk along it that finds a row's leader, and a row put at its head.
 use Prim.Native.Nat.{ℕ, ◌+◌, ◌-◌, ◌≤◌, ◌<◌}
-use mathlib.Core.Path.{◌≡◌, refl, sym, ap, subst, ◌∙◌}
-use mathlib.Core.Bool.{true, false}
+use mathlib.Core.Path.{◌≡◌, sym, ap, subst, ◌∙◌}
 use mathlib.Core.List.{List}
 use native.Mathlib.Decide.{ℕ_discrete, dec_lt}
 use native.Mathlib.Omega.{arith}
 use lib.ListN.{get_or, set, replicate, length-set, length-replicate, get_or-replicate}
 use lib.Seq.{get_or-set_same, get_or-set_other}
 use Rattle.model.specs.Bounds.{row_bound}
-use Rattle.model.proofs.Truth.{true_is}
 use Rattle.leaders.specs.Keys.{first_same}
 use Rattle.leaders.proofs.Numbers.{first_same_le, first_same_word, same_first}
-use Rattle.grouping.specs.Chains.{chains, chain_of, LeadsIn, LastIn, LinkedBelow, Chained, Placed}
+use Rattle.grouping.specs.Chains.{chains, chain_of, LeadsIn, LastIn, LinkedBelow, Chained}
 
 -- the walk along the chain of row q stands at c: a leader of that chain, and no leader from there on to q has the
 -- word of q
@@ -148,25 +146,3 @@ chained_leader ws m h heads links l is leads k = record {
     link p i f (no d) =
         subst (LastIn ws p (chain_of (get_or ws p 0))) (sym (get_or-set_other links m p (get_or heads h 0) 0 d))
         (k.linked.link p (omega arith) f)
-
--- the row has its leader
-module _ (ws : List ℕ) (q p : ℕ) (heads links before : List ℕ) (is : p ≡ first_same ws q)
-    (k : Chained ws q heads links) where
-  pub placed_follower : (p ≡ q → ⊥) → Placed ws q heads links before (set before q p) false
-  placed_follower n =
-      let other : first_same ws q ≡ q → ⊥ = λ e. n (is ∙ e) in
-      record {
-        chained = chained_follower ws q heads links other k;
-        leader = ap (set before q) is;
-        leads = (λ e. absurd (true_is e), λ f. absurd (other f));
-      }
-
-  pub placed_leader : (h : ℕ) → q < row_bound → (h ≡ chain_of (get_or ws q 0)) × (h < chains) → p ≡ q
-      → Placed ws q (set heads h (q + 1)) (set links q (get_or heads h 0)) before (set before q p) true
-  placed_leader h l i e =
-      let leads : first_same ws q ≡ q = sym is ∙ e in
-      record {
-        chained = chained_leader ws q h heads links l i leads k;
-        leader = ap (set before q) is;
-        leads = (λ e. leads, λ f. refl);
-      }

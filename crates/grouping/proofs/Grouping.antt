@@ -46,9 +46,3 @@ grouped_more ws q heads links before after r s l placed g = record {
         → (r && s ≡ true) ↔ ((p : ℕ) → p < q + 1 → first_same ws p ≡ p)
     alone true s f g = (λ e. below_more (f.0 refl) (g.0 e), λ h. g.1 (h q (omega arith)))
     alone false s f g = (λ e. absurd (true_is e), λ h. f.1 (λ p l. h p (omega arith)))
-
-pub grouping_more : {ws : List ℕ} {q : ℕ} {heads links heads₀ links₀ before after : List ℕ} {r s : Bool} → q < row_bound
-    → Placed ws q heads links before after s → Grouping ws q heads₀ links₀ before r
-    → Grouping ws (q + 1) heads links after (r && s)
-grouping_more l placed g =
-    record { chained = placed.chained; grouped = grouped_more _ _ _ _ _ _ _ _ l placed g.grouped }

@@ -56,8 +56,3 @@ module _ (cat : List ℕ) (o c low : ℕ) (reached : List ℕ) (end set : ℕ) (
           ∙ ap (λ (i : ℕ). get_or leaders i 0) (place q) ∙ g.leaders q lq
           ∙ leader_by_words cat (o + 8 + 4 * (j - 1)) (2 + 4 * c) reached end words w q lq)
       at i q li hi n lq (no d) = put.past ((low + i) * row_bound + q) (omega arith) ∙ h.laid i q (omega arith) hi n lq
-
-  -- as far
-  pub table_moved : {j k : ℕ} {keys : List ℕ} → j ≡ k → LaidTable cat o c low reached end set j before keys
-      → LaidTable cat o c low reached end set k before keys
-  table_moved {keys} e h = subst (λ (j : ℕ). LaidTable cat o c low reached end set j before keys) e h

@@ -15,7 +15,7 @@ use Rattle.leaders.specs.Keys.{first_same}
 use Rattle.model.proofs.First.{first_from_same}
 use Rattle.filled.specs.Filled.{Filled}
 use Rattle.filled.proofs.Below.{below_more}
-use Rattle.filled.proofs.Filled.{filled_none, filled_more, filled_first}
+use Rattle.filled.proofs.Filled.{filled_more, filled_first}
 use Rattle.keys.specs.Column.{code_of, agree_by, leader_by, cell_word, AgreeWords}
 
 -- the word of a missing cell is beyond all codes, and that of another is its code
@@ -71,10 +71,6 @@ words_same f x y lx ly = at (ℕ_discrete x y)
 pub record Filling (cat : List ℕ) (from width : ℕ) (reached : List ℕ) (q : ℕ) (before words : List ℕ) : Type 0 where
   pub put : Filled 0 q (λ p. cell_word (code_of cat from width (get_or reached p 0)) (get_or reached p 0)) before words
   pub small : (p : ℕ) → p < q → code_of cat from width (get_or reached p 0) ≤ missing
-
-pub filling_begun : (cat : List ℕ) (from width : ℕ) (reached before : List ℕ)
-    → Filling cat from width reached 0 before before
-filling_begun cat from width reached before = record { put = filled_none; small = λ p l. absurd (omega arith) }
 
 pub filling_more : (cat : List ℕ) (from width : ℕ) (reached : List ℕ) (q : ℕ) (before words : List ℕ) (code x : ℕ)
     → q < length before

@@ -139,6 +139,3 @@ module _ (keys : List ℕ) (end x : ℕ) where
                   (leader_is (key_view keys k end) (key_equivalence keys k end) x q).lowest r (omega (arith, alone q l))
                   (λ j o i. a j (omega arith) i);
             }))
-
-    pub led_done : (n : ℕ) → k ≡ n → Led keys n end x leaders s
-    led_done n e = subst (λ (k : ℕ). Led keys k end x leaders s) e led

@@ -23,7 +23,7 @@ use Rattle.model.proofs.View.{agree_right_reflexive, holds_true, true_holds, min
 use Rattle.table.specs.Words.{lacking_of}
 use Rattle.table.specs.Broken.{minimal_mask}
 use Rattle.model.specs.Rights.{right_at}
-use Rattle.table.proofs.Bits.{bit_none, bit_with_same, bit_with_other, bit_lacking}
+use Rattle.table.proofs.Bits.{bit_with_same, bit_with_other, bit_lacking}
 use Rattle.table.proofs.Table.{right_row, right_column, right_in, bit_zero_if, minimal_mask_lem}
 use Rattle.leaders.specs.Leaders.{leader_of}
 use Rattle.leaders.specs.Keys.{key_at, key_view}
@@ -112,22 +112,7 @@ module _ (keys : List ℕ) (n end x : ℕ) (leaders : List ℕ) (alone : Bool) (
 
 -- the members given, one by one
 module _ (keys leaders : List ℕ) (end wanted : ℕ) where
-  pub below_none : GivenBelow keys leaders end wanted 0 0
-  below_none = record { members = λ a. (λ i. absurd (omega (arith, bit_none a)), λ f. absurd (omega (arith, f.0))) }
-
   module _ (a r : ℕ) (below : GivenBelow keys leaders end wanted a r) where
-    pub below_kept : ((bit wanted a ≡ 1) × Gives keys leaders a end → ⊥) → GivenBelow keys leaders end wanted (suc a) r
-    below_kept n = record {
-      members = λ j. (
-        λ i. let f = (below.members j).0 i in let l = f.0 in (omega arith, f.1, f.2),
-        λ f. at j f.0 (f.1, f.2) (ℕ_discrete j a),
-      );
-    }
-      where
-        at : (j : ℕ) → j < suc a → (bit wanted j ≡ 1) × Gives keys leaders j end → Dec (j ≡ a) → bit r j ≡ 1
-        at j l f (yes e) = absurd (n (subst (λ (j : ℕ). (bit wanted j ≡ 1) × Gives keys leaders j end) e f))
-        at j l f (no d) = (below.members j).1 (omega arith, f.0, f.1)
-
     pub below_added : (p : ℕ) → p ≡ 2 ^ a → bit wanted a ≡ 1 → Gives keys leaders a end
         → GivenBelow keys leaders end wanted (suc a) (bit_or r p)
     below_added p is w g = record {
@@ -152,12 +137,6 @@ module _ (keys leaders : List ℕ) (end wanted : ℕ) where
               λ i. let f = (below.members j).0 (sym b ∙ i) in let l = f.0 in (omega arith, f.1, f.2),
               λ f. let l = f.0 in b ∙ (below.members j).1 (omega arith, f.1, f.2),
             )
-
-    pub below_done : (n : ℕ) → a ≤ n → n ≤ a → GivenBelow keys leaders end wanted n r
-    below_done n h g = subst (λ (a : ℕ). GivenBelow keys leaders end wanted a r) same below
-      where
-        same : a ≡ n
-        same = omega arith
 
 -- the rights of x that need each of its members are the minimal ones
 module _ (keys : List ℕ) (n end x own : ℕ) (few : n ≤ column_bound) (small : x < 2 ^ n) (asked : own < 2 ^ suc n)

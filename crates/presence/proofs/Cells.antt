@@ -70,17 +70,6 @@ module _ (f : ℕ → Bool) (c set : ℕ) where
       wider : 1 + (c - j) ≡ c - (j - 1)
       wider = omega (arith, g.0)
 
-  pub joining_done : (j joined : ℕ) → j ≡ 0 → Joining f c set j joined → joined ≡ set_below c f + 2 ^ c * set
-  joining_done j joined e g =
-      g.1 ∙ ap (λ (j : ℕ). joined_from f j (c - j) set) e ∙ ap (λ (m : ℕ). joined_from f 0 m set) all
-      ∙ ap (λ (s : ℕ). s + 2 ^ c * set) (set_below_same c (λ k. f (0 + k)) f (λ k l. ap f (same k)))
-    where
-      all : c - 0 ≡ c
-      all = omega arith
-
-      same : (k : ℕ) → 0 + k ≡ k
-      same k = omega arith
-
   -- there is room for one more
   pub joining_small : (j joined : ℕ) → 0 < j → Joining f c set j joined → c ≤ column_bound → set < 2 ^ column_bound
       → 2 * joined + 1 < 2 ^ 32

@@ -76,10 +76,6 @@ set_more sets q s = (
     at f (no n) = inl (f.0, omega (arith, f.1), f.2)
 
 -- the sets of the first rows, marked
-pub marked_sets_none : (sets plane : List ℕ) → Marked (LaidSet sets 0) plane plane
-marked_sets_none sets plane =
-    record { marks = λ y. (λ b. inl b, elim [ inl b ↦ b | inr f ↦ absurd (no_set sets y f) ]) }
-
 pub marked_sets_more : (sets before mid after : List ℕ) (q : ℕ) → Marked (LaidSet sets q) before mid
     → Marked (λ y. y ≡ word sets q) mid after → Marked (LaidSet sets (q + 1)) before after
 marked_sets_more sets before mid after q m one =

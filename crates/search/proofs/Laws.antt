@@ -12,7 +12,6 @@ use lib.ListN.{get_or, length, length-set, set}
 use lib.Seq.{get_or-set_same, get_or-set_other}
 use Rattle.columns.specs.Test.{pick}
 use Rattle.model.specs.Bounds.{row, row_bound}
-use Rattle.model.proofs.Truth.{true_is, false_is}
 use Rattle.leaders.specs.Keys.{key_at}
 use Rattle.search.specs.Strays.{same_right, strays, follows, LowerLeaders, MarkedMore, MarkedBelow, row_after}
 use Rattle.search.specs.Strays.{NoneBefore}
@@ -55,11 +54,6 @@ module _ (keys leaders : List ℕ) (a q : ℕ) where
 
 -- the marks
 module _ (keys leaders : List ℕ) (a : ℕ) where
-  pub marked_kept : (q : ℕ) (marks : List Bool) → length marks ≡ row_bound → strays keys leaders a q ≡ false
-      → MarkedMore keys leaders a q marks marks
-  marked_kept q marks l f =
-      record { long = l; kept = λ i h. h; more = λ s. absurd (false_is f (true_is s)) }
-
   pub marked_one : (q : ℕ) (marks : List Bool) → length marks ≡ row_bound → get_or leaders q 0 < row_bound
       → MarkedMore keys leaders a q marks (set marks (get_or leaders q 0) true)
   marked_one q marks l h =
@@ -76,16 +70,6 @@ module _ (keys leaders : List ℕ) (a : ℕ) where
           (get_or-set_same marks (get_or leaders q 0) true false (omega arith))
       at i m (no n) = get_or-set_other marks (get_or leaders q 0) i true false n ∙ m
 
-  pub marked_more : (q : ℕ) (before after : List Bool) → MarkedBelow keys leaders a q before
-      → MarkedMore keys leaders a q before after → MarkedBelow keys leaders a (q + 1) after
-  marked_more q before after h m r l s = at (ℕ_discrete r q)
-    where
-      at : Dec (r ≡ q) → get_or after (get_or leaders r 0) false ≡ true
-      at (yes e) =
-          subst (λ (j : ℕ). get_or after (get_or leaders j 0) false ≡ true) (sym e)
-          (m.more (subst (λ (j : ℕ). strays keys leaders a j ≡ true) e s))
-      at (no n) = m.kept (get_or leaders r 0) (h r (omega arith) s)
-
 -- the row after p
 pub after_marked : (marks : List Bool) (p end : ℕ) → get_or marks p false ≡ true → p + 1 ≡ row_after marks p end
 unfolding row_after
@@ -97,13 +81,6 @@ after_end marks p end e = sym (ap (λ (t : Bool). pick t (p + 1) end) e)
 
 -- how far the search has come, where no leader is above its row and each that a row strays from is marked
 module _ (keys leaders : List ℕ) (a end : ℕ) (led : LowerLeaders end leaders) where
-  pub before_none : NoneBefore keys leaders a end 0 0
-  before_none r l s = at (ℕ_discrete 0 (get_or leaders r 0))
-    where
-      at : Dec (0 ≡ get_or leaders r 0) → (0 < get_or leaders r 0) ⊎ ((0 ≡ get_or leaders r 0) × (0 ≤ r))
-      at (yes e) = inr (e, omega arith)
-      at (no n) = inl (omega arith)
-
   -- a row does not stray from itself
   apart : (r : ℕ) → strays keys leaders a r ≡ true → get_or leaders r 0 ≡ r → ⊥
   unfolding strays
@@ -143,26 +120,3 @@ module _ (keys leaders : List ℕ) (a end : ℕ) (led : LowerLeaders end leaders
           → (p < get_or leaders r 0) ⊎ ((p ≡ get_or leaders r 0) × (q + 1 ≤ r))
       at (inl g) = inl g
       at (inr (g, l)) = inr (g, omega (arith, other g))
-
-  pub before_row : (p q : ℕ) → end ≤ q → NoneBefore keys leaders a end p q → NoneBefore keys leaders a end (p + 1) 0
-  before_row p q l h r k s = at (h r k s)
-    where
-      at : (p < get_or leaders r 0) ⊎ ((p ≡ get_or leaders r 0) × (q ≤ r)) → (p + 1 < get_or leaders r 0)
-          ⊎ ((p + 1 ≡ get_or leaders r 0) × (0 ≤ r))
-      at (inl g) = up (ℕ_discrete (p + 1) (get_or leaders r 0))
-        where
-          up : Dec (p + 1 ≡ get_or leaders r 0) → (p + 1 < get_or leaders r 0) ⊎ ((p + 1 ≡ get_or leaders r 0) × (0 ≤ r))
-          up (yes e) = inr (e, omega arith)
-          up (no n) = inl (omega arith)
-      at (inr (g, m)) = absurd (omega arith)
-
-  pub before_all : (p : ℕ) → end ≤ p → NoneBefore keys leaders a end p 0 → (r : ℕ) → r < end
-      → strays keys leaders a r ≡ true → ⊥
-  before_all p l h r k s = at (h r k s)
-    where
-      low : get_or leaders r 0 ≤ r
-      low = led.lower r k
-
-      at : (p < get_or leaders r 0) ⊎ ((p ≡ get_or leaders r 0) × (0 ≤ r)) → ⊥
-      at (inl g) = omega (arith, low)
-      at (inr (g, m)) = omega (arith, low)
