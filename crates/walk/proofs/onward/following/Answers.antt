@@ -6,20 +6,10 @@ use borrow.Author.Rules.{rules}
 use Rattle.columns.specs.Order.{next_of}
 use Rattle.columns.specs.Set.{members_of}
 use Rattle.std.specs.Prelude.{Some, None}
-use Rattle.model.proofs.Check.{accepted_tables}
 use Rattle.passing.specs.declared.Walk.{Walk}
 use Rattle.walk.specs.Walks.{After}
-use Rattle.walk.proofs.Walks.{good_target, follow_within, follow_target, follow_none}
+use Rattle.walk.proofs.Walks.{follow_within, follow_target, follow_none}
 use Rattle.walk.proofs.onward.following.Goals as goal
-
-pub overflow_add-target : goal.overflow_add-target
-overflow_add-target c =
-    let s = c in
-    omega (
-      arith,
-      good_target (ordinary s.args.cat.now) s.args.w s.args.work.now s.requires.good s.requires.pending_value,
-      accepted_tables s.args.cat.now s.requires.accepted,
-    )
 
 pub returns-then-n-target : goal.returns-then-n-target
 returns-then-n-target c =

@@ -1,19 +1,13 @@
 -- `walk::pass` meets its contract.
 use Rattle.model.specs.Listing.{ordinary}
-use Rattle.walk.proofs.Walks.{fresh_target, fresh_inside, fresh_passable, passes_by}
+use Rattle.walk.proofs.Walks.{fresh_inside, fresh_passable, passes_by}
 use borrow.Author.Rules.{rules}
 use Rattle.walk.proofs.onward.pass.Goals as goal
 
-pub rights-mask-requires : goal.rights-mask-requires
-rights-mask-requires c =
-    let s = c in
-    let l = ordinary s.args.cat.now in
-    let f = s.requires.fresh in record {
-      accepted = s.requires.accepted;
-      target_bound = fresh_target l s.args.w s.args.work.now f;
-      n_value = (f.sound.members, fresh_inside l s.args.w s.args.work.now f);
-      ready = s.requires.ready;
-    }
+pub rights-mask-requires-clause-n_value : goal.rights-mask-requires-clause-n_value
+rights-mask-requires-clause-n_value c =
+    let f = c.requires.fresh in
+    (f.sound.members, fresh_inside (ordinary c.args.cat.now) c.args.w c.args.work.now f)
 
 pub passed-requires : goal.passed-requires
 passed-requires c =

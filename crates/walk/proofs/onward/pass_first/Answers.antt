@@ -7,14 +7,10 @@ use Rattle.walk.proofs.Walks.{entered_fresh, entered_ready, entered_passes}
 use borrow.Author.Rules.{rules}
 use Rattle.walk.proofs.onward.pass_first.Goals as goal
 
-pub alone-mask-requires : goal.alone-mask-requires
-alone-mask-requires c =
-    let s = c in
-    let l = ordinary s.args.cat.now in record {
-      accepted = s.requires.accepted;
-      target_bound = fresh_target l s.args.w s.args.work.now s.requires.fresh;
-      left_bound = (fresh_left l s.args.w s.args.work.now s.requires.fresh, s.requires.fresh.sound.enough);
-    }
+pub alone-mask-requires-clause-left_bound : goal.alone-mask-requires-clause-left_bound
+alone-mask-requires-clause-left_bound c =
+    let f = c.requires.fresh in
+    (fresh_left (ordinary c.args.cat.now) c.args.w c.args.work.now f, f.sound.enough)
 
 pub passed-requires : goal.passed-requires
 passed-requires c =
@@ -29,14 +25,6 @@ returns-then-w-eq1 c =
     c.alone-mask.ensures _
     (λ some. absurd (omega (arith, c.if-w-eq1.true))) (search rules)
     c.passed.result c.passed.ensures
-
-pub prepare-entered-requires : goal.prepare-entered-requires
-prepare-entered-requires c =
-    let s = c in record {
-      accepted = s.requires.accepted;
-      target_bound = fresh_target (ordinary s.args.cat.now) s.args.w s.args.work.now s.requires.fresh;
-      work_bound_in_bounds = s.requires.fresh.sound.enough;
-    }
 
 pub rights-mask-requires : goal.rights-mask-requires
 rights-mask-requires c =
