@@ -1,6 +1,4 @@
 -- `walk::first` meets its contract.
-use Prim.Native.Nat.{ℕ, ◌^◌, ◌<◌}
-use mathlib.Core.Path.{sym, subst}
 use native.Mathlib.Omega.{arith}
 use Rattle.model.specs.Listing.{ordinary}
 use Rattle.model.proofs.Check.{accepted_visible}
@@ -8,16 +6,14 @@ use Rattle.model.proofs.Rights.{ordinary_bounded}
 use Rattle.walk.proofs.Walks.{first_walk}
 use Rattle.walk.proofs.locate.first.Goals as goal
 
-pub set_at-left-requires : goal.set_at-left-requires
-set_at-left-requires c =
-    let f = c.find-s in
-    let s = c in
-    let e = c.visible-n.ensures in
-    let n = accepted_visible s.args.cat.now s.requires.accepted f.result.target f.ensures.target in
-    record {
-      n_le_column_bound = omega arith;
-      index_bound = subst (λ (k : ℕ). f.result.index < 2 ^ k) (sym e) f.ensures.inside;
-    }
+pub set_at-left-requires-clause-n_le_column_bound : goal.set_at-left-requires-clause-n_le_column_bound
+set_at-left-requires-clause-n_le_column_bound c =
+    let s = c.find-s in
+    omega (
+      arith,
+      c.visible-n.ensures,
+      accepted_visible c.args.cat.now c.requires.accepted s.result.target s.ensures.target,
+    )
 
 pub returns : goal.returns
 returns c =

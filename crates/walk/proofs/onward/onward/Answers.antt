@@ -1,26 +1,10 @@
 -- `walk::onward` meets its contract.
-use native.Mathlib.Omega.{arith}
 use Rattle.model.specs.Listing.{ordinary}
 use Rattle.walk.proofs.Walks.{stopped_spent, stopped_end, goes}
 use Rattle.walk.proofs.onward.onward.Goals as goal
 
 pub returns-then-w-eq0 : goal.returns-then-w-eq0
 returns-then-w-eq0 c = stopped_spent (ordinary c.args.cat.now) c.args.w c.requires.pending_value c.if-w-eq0.true
-
-pub following-requires : goal.following-requires
-following-requires c = record {
-  accepted = c.requires.accepted;
-  good = c.requires.good;
-  pending_value = c.requires.pending_value;
-  budget_nonzero = omega arith;
-}
-
-pub pass-requires : goal.pass-requires
-pass-requires c = record {
-  accepted = c.requires.accepted;
-  fresh = c.in_ok-v.ensures.fresh;
-  ready = c.in_ok-v.ensures.ready;
-}
 
 pub returns-in_err-v : goal.returns-in_err-v
 returns-in_err-v c =
