@@ -77,7 +77,8 @@ digit_most (x ∷ l) = at (is_digit x) (digit_small x)
     at false h = omega arith
 
 -- a number by its first digit, and without one
-pub number_step : (n : ℕ) (l : List ℕ) → digit_in l < 10 → number_from n l ≡ number_from (10 * n + digit_in l) (drop 1 l)
+pub number_step : (n : ℕ) (l : List ℕ) → digit_in l < 10
+    → number_from n l ≡ number_from (10 * n + digit_in l) (drop 1 l)
 unfolding digit_in number_from
 number_step n [] h = absurd (omega arith)
 number_step n (x ∷ l) h = at (is_digit x) h

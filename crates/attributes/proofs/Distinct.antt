@@ -86,7 +86,8 @@ unseen_more seen k h (c ∷ cs) = at (ℕ_discrete c.0 k) (unseen_more seen k h 
 
 -- the answer on one attribute: a high column is looked for in the rest, and a low one among those seen
 module _ (s : List ℕ) (p : ℕ) (seen : List Bool) where
-  pub noted_high : {k : ℕ} {r : Bool} → length seen ≡ column_bound → k ≡ capped (number_in (drop p s)) → column_bound ≤ k
+  pub noted_high : {k : ℕ} {r : Bool} → length seen ≡ column_bound → k ≡ capped (number_in (drop p s))
+      → column_bound ≤ k
       → r ≡ not (is_fresh (number_in (drop p s)) (cells_in (drop p s))) → Noted s p seen seen r
   unfolding distinct_beside is_distinct unseen
   noted_high l e h a =

@@ -26,4 +26,7 @@ loop-other-preserved c =
     ∙ passing_at (is_fresh k) a.s.now l.q c.in-Some.ensures l.invariant
 
 pub returns : goal.returns
-returns c = ap not (passing_done (is_fresh (number_in (drop c.args.name c.args.s.now))) c.args.s.now c.loop-other.q c.in_default.ensures c.loop-other.invariant)
+returns c =
+    let a = c.args in
+    let l = c.loop-other in
+    ap not (passing_done (is_fresh (number_in (drop a.name a.s.now))) a.s.now l.q c.in_default.ensures l.invariant)

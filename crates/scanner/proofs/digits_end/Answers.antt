@@ -8,13 +8,15 @@ use Rattle.scanner.proofs.digits_end.Goals as goal
 pub returns-then-not-is_ascii_digit : goal.returns-then-not-is_ascii_digit
 unfolding digits_end
 returns-then-not-is_ascii_digit c =
-    sym (first_here _ _ c.loop-q-test.true (ap not (sym c.is_ascii_digit.ensures.value) ∙ ap not c.if-not-is_ascii_digit.true))
+    sym (first_here _ _ c.loop-q-test.true
+    (ap not (sym c.is_ascii_digit.ensures.value) ∙ ap not c.if-not-is_ascii_digit.true))
     ∙ c.loop-q.invariant
 
 pub loop-q-preserved : goal.loop-q-preserved
 unfolding digits_end
 loop-q-preserved c =
-    sym (first_more _ _ c.loop-q-test.true (ap not (sym c.is_ascii_digit.ensures.value) ∙ ap not c.if-not-is_ascii_digit.false))
+    sym (first_more _ _ c.loop-q-test.true
+    (ap not (sym c.is_ascii_digit.ensures.value) ∙ ap not c.if-not-is_ascii_digit.false))
     ∙ c.loop-q.invariant
 
 pub returns : goal.returns

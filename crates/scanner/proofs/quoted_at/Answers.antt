@@ -43,7 +43,8 @@ overflow_add-p-2 c = omega (arith, within (goal.at.overflow_add-p-2 c).Else-not-
 pub returns-then-number_at-ge-MISSING-clause-place : goal.returns-then-number_at-ge-MISSING-clause-place
 unfolding quoted_at
 returns-then-number_at-ge-MISSING-clause-place c =
-    some_picked (quoted (goal.at.returns-then-number_at-ge-MISSING-clause-place c).After-is_quote) c.if-not-is_quote.false
+    some_picked (quoted (goal.at.returns-then-number_at-ge-MISSING-clause-place c).After-is_quote)
+    c.if-not-is_quote.false
     (some_read _ c.in_ok-end.ensures.place c.in_ok-end.ensures.onward
     (is_if_not_lt _ (capped_least c.number_at.ensures (omega arith) c.if-number_at-ge-MISSING.true) refl))
 

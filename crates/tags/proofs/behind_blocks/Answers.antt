@@ -7,15 +7,6 @@ use Rattle.tags.proofs.behind_blocks.Goals as goal
 pub loop-i-init : goal.loop-i-init
 loop-i-init c = passed_none _ _
 
-pub less_in-requires : goal.less_in-requires
-less_in-requires c = omega arith
-
-pub overflow_add-i : goal.overflow_add-i
-overflow_add-i c = omega arith
-
-pub loop-i-smaller : goal.loop-i-smaller
-loop-i-smaller c = omega arith
-
 pub loop-i-preserved : goal.loop-i-preserved
 loop-i-preserved c =
     passed_block _ _ _ block_bytes c.loop-i.invariant (omega arith)
