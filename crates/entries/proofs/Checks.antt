@@ -86,13 +86,15 @@ from_step file zero i h = absurd (omega arith)
 from_step file (suc n) i h = simp sub-one
 
 pub left_from : (file : List ℕ) (n p i : ℕ) {e : Entry} → i < n → p + entry_bytes * n ≤ length file
-    → e ≡ entry_at (take (p + entry_bytes * i + entry_bytes - (p + entry_bytes * i)) (drop (p + entry_bytes * i) file)) 0
+    → e
+    ≡ entry_at (take (p + entry_bytes * i + entry_bytes - (p + entry_bytes * i)) (drop (p + entry_bytes * i) file)) 0
     → entries_from file (n - i) (p + entry_bytes * i)
     ≡ e ∷ entries_from file (n - (i + 1)) (p + entry_bytes * (i + 1))
 left_from file n p i h l q =
     let m : n - i - 1 ≡ n - (i + 1) = omega arith in
     let r : p + entry_bytes * i + entry_bytes ≡ p + entry_bytes * (i + 1) = omega arith in
-    rw (from_step file (n - i) (p + entry_bytes * i) (omega arith), m, r, q, entry_cut file (p + entry_bytes * i) (omega arith)) refl
+    rw (from_step file (n - i) (p + entry_bytes * i) (omega arith), m, r, q, entry_cut file (p + entry_bytes * i) (omega arith))
+    refl
 
 pub none_from : (file : List ℕ) (n p i : ℕ) → n ≤ i → entries_from file (n - i) p ≡ []
 unfolding entries_from

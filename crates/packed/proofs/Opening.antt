@@ -36,7 +36,8 @@ module _ (file : List ℕ) {d k : ℕ} (h : trailer_bytes ≤ length file) (p : 
 
   checked : entries_code (entries_from file k (length file - d)) ≡ read_code file
   unfolding read_code entries_held
-  checked = ap entries_code (ap₂ (λ (m n : ℕ). entries_from file m (length file - n)) q p) ∙ sym (or_else_next _ is_list)
+  checked = ap entries_code (ap₂ (λ (m n : ℕ). entries_from file m (length file - n)) q p)
+      ∙ sym (or_else_next _ is_list)
 
   pub bad_list : number BadEntry ≡ entries_code (entries_from file k (length file - d))
       → refused (number BadEntry) ≡ open_meaning file

@@ -30,7 +30,8 @@ module _ (file : List ℕ) where
   refuses p = (refused_by (read_code file) (count_in file ∷ (length file - distance_in file) ∷ []) p).1
 
   -- so what may be read by the answer is what may be read of the file
-  pub entries_by_lem : (a : Result Opened Refusal) → open_reply a ≡ open_meaning file → entries_by a file ≡ entries_read file
+  pub entries_by_lem : (a : Result Opened Refusal) → open_reply a ≡ open_meaning file
+      → entries_by a file ≡ entries_read file
   unfolding entries_by entries_read
   entries_by_lem (Ok o) p = sym (if_eq_yes _ (accepts p))
   entries_by_lem (Err r) p = sym (if_eq_no _ (refuses p))

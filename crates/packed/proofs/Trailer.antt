@@ -67,17 +67,20 @@ unfolding tail_code
 unlisted file n = first (dec_lt (length file) trailer_bytes)
   where
     last : trailer_bytes ≤ length file → distance_in file ≡ distance_of (count_in file)
-        → Dec (length file < distance_in file) → number NoList ≡ if_lt (length file) (distance_in file) (number NoList) 0
+        → Dec (length file < distance_in file)
+        → number NoList ≡ if_lt (length file) (distance_in file) (number NoList) 0
     last h e (yes l) = is_if_lt _ l refl
     last h e (no m) = absurd (n (record { trailer = h; distance = e; fits = omega arith }))
 
     next : trailer_bytes ≤ length file → Dec (distance_in file ≡ distance_of (count_in file))
         → number NoList
-        ≡ if_eq (distance_in file) (distance_of (count_in file)) (if_lt (length file) (distance_in file) (number NoList) 0)
+        ≡ if_eq (distance_in file) (distance_of (count_in file))
+        (if_lt (length file) (distance_in file) (number NoList) 0)
         (number NoList)
     next h (yes e) = is_if_eq _ e (last h e (dec_lt (length file) (distance_in file)))
     next h (no m) = is_if_ne _ m refl
 
     first : Dec (length file < trailer_bytes) → number NoList ≡ tail_code file
     first (yes h) = is_if_lt _ h refl
-    first (no m) = is_if_not_lt _ (omega arith) (next (omega arith) (ℕ_discrete (distance_in file) (distance_of (count_in file))))
+    first (no m) = is_if_not_lt _ (omega arith)
+        (next (omega arith) (ℕ_discrete (distance_in file) (distance_of (count_in file))))

@@ -92,7 +92,8 @@ pub all_written : (es : List Entry) (o out : List ℕ) (i : ℕ) → length es �
 all_written es o out i h l q =
     let e : i ≡ length es = omega arith in
     q ∙ ap (λ (n : ℕ). entries_bytes (take n es) ++ drop (entry_bytes * n) o) e
-    ∙ ap (λ (x : List Entry). entries_bytes x ++ drop (entry_bytes * length es) o) (take_all (length es) es (omega arith))
+    ∙ ap (λ (x : List Entry). entries_bytes x ++ drop (entry_bytes * length es) o)
+    (take_all (length es) es (omega arith))
 
 -- the first of the entries that are left
 pub left_in : (es : List Entry) (i : ℕ) → i < length es → drop i es ≡ get_or es i (entry 0 0 0) ∷ drop (i + 1) es

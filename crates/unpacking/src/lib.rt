@@ -38,7 +38,8 @@ fn first_in(file: &[u8]) -> usize
     file.len().saturating_sub(distance_in(file))
 }
 
-// How many entries may be read: none where the file was refused.
+// How many entries may be read: none where the file was refused. Here and below the file and the answer are two
+// parameters and no struct, since `Begun` and `advanced` of packed/specs fix that `Reader` holds them side by side.
 #[tactic(auto, using(entries::proofs::Entries::length_in), unfolding(crate::specs::Reading::entries_by))]
 fn entries_in(file: &[u8], answer: Result<Opened, Refusal>) -> u32
     ensures { result ≡ length (entries_by answer file.now) }
