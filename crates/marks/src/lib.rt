@@ -84,7 +84,8 @@ pub fn close_lefts(list: PackedEntries, target: u32, right: u32, m: u32, plane: 
     planes::fill(&marks, m, m, plane);
 }
 
-// Marks the set of the record at an index, if it is for the two.
+// Marks the set of the record at an index, if it is for the two. With the two functions below it is the twin of those
+// for lefts: one for both would take the reading and the place to mark as closures, and be no plainer.
 fn mark_set(records: EvidenceRecords, i: usize, target: u32, right: u32, m: u32, plane: &mut [u32])
     requires { RoomFor m plane.old × (i < records.count) × NarrowSet m target right (record_of records i) }
     ensures { Marked (λ y. SetAt target right y (record_of records.entry i)) plane.old plane.new }

@@ -48,7 +48,8 @@ fn entries_fit(list: PackedEntries, target: u32, n: u32, low: u32) -> bool
     (0..list.count).all(|i| fits_for(list.entry(i), target, n, low))
 }
 
-// 8: is each entry's target below the number of tables?
+// 8: is each entry's target below the number of tables? `records::all_known` asks it of records: a trait over both runs
+// would be longer than the two lines.
 pub fn all_known(list: PackedEntries, tables: u32) -> bool
     ensures { (result ≡ true) ↔ Each (λ e. e.target < tables) (entries_of list.entry) }
 {
