@@ -1,3 +1,2 @@
 pub mod Leaders
-pub mod Table
 pub mod Keys
