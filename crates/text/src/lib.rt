@@ -1,5 +1,6 @@
 // Not for callers: what the programs print: words, decimal numbers and entries, put into lent bytes at a position and
 // written to a writer in one go. Each answers the position behind what it put; what does not fit is left out.
+// There is no `Display`: `write!` answers no position, on which the contracts of the lines rest.
 // Relies on the types of `model` and on `itoa` for digits. Called by the programs, and by `page_lines` and `pages`.
 #![tactic(auto)]
 

@@ -2,14 +2,8 @@
 use native.Mathlib.Omega.{arith}
 use borrow.Author.Rules.{rules}
 use Rattle.rights.specs.Rights.{lowest}
-use Rattle.steps.proofs.Putting.{put_lowest, put_power, put_right, put_is}
+use Rattle.steps.proofs.Putting.{put_power, put_right, put_is}
 use Rattle.steps.proofs.put.put.Goals as goal
-
-pub power-requires : goal.power-requires
-unfolding lowest
-power-requires c =
-    let s = c in
-    omega (arith, put_lowest s.args.w s.requires, s.requires.members)
 
 pub overflow_sub-result : goal.overflow_sub-result
 unfolding lowest
