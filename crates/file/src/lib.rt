@@ -15,7 +15,7 @@ pub fn byte_at(b: &[u8], i: usize) -> u8
     b.get(i).copied().unwrap_or(0)
 }
 
-// The 2-byte number at i.
+// The 2-byte number at i. It and the next stay two: their results have two types, and each is one call of the library.
 #[tactic(auto, using(crate::proofs::Past::u16_past), unfolding(model::specs::Bytes::u16_at))]
 pub fn u16_at(b: &[u8], i: usize) -> u16
     ensures { result ≡ u16_at b.now i }
@@ -42,7 +42,8 @@ pub fn u32_at(b: &[u8], i: usize) -> u32
     ])
 }
 
-// Writes the 2 lowest bytes of a number at i.
+// Writes the 2 lowest bytes of a number at i. It and the next stay two: contracts name `bytes2` and `bytes4`, and each is
+// one line.
 pub fn put_u16(out: &mut [u8], i: usize, x: usize)
     requires { i + 2 ≤ length out.old }
     ensures { out.new ≡ sets out.old i (bytes2 x) }

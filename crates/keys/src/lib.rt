@@ -79,8 +79,8 @@ pub fn lay(target: Target, set: u32, keys: &mut [u16; SIZE])
 // Lays the keys of all members of a target.
 pub fn lay_all(target: Target, all: &mut [u16; SIZE])
     requires { length all.old ≡ keys_size }
-    ensures { Keyed (view_of target.entry) (2 ^ members_in target.entry - 1) (members_in target.entry) (rows_in target.entry)
-        all.new }
+    ensures { Keyed (view_of target.entry) (2 ^ members_in target.entry - 1) (members_in target.entry)
+        (rows_in target.entry) all.new }
 {
     lay(target, power(target.members()) - 1, all);
 }
