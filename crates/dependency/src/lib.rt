@@ -35,7 +35,7 @@ pub fn ask(
 }
 
 // The first breaking pair (lowest first row, then lowest second row), or 'none' where the dependency holds. The work
-// words as above.
+// words as above. The two calls stay two, as C has them: they share every line but the last.
 pub fn pair(
     cat: &[u8],
     target: u32,

@@ -63,6 +63,7 @@ pub fn lay(target: Target, set: u32, keys: &mut [u16; SIZE])
     own_rows(end, &mut reached);
     let mut at = target.table as usize;
     let mut above = target.members() as usize;
+    // It counts no index: the climb goes by the parents that the bytes name.
     'climb: loop {
         let o = code_at(cat, first + 4 * at) as usize;
         let c = short_at(cat, o) as usize;

@@ -26,7 +26,7 @@ const PAGE_BOUND: usize = LINE_BOUND * RUN_BOUND + HEAD_BOUND;
 // How many work words are lent: one for each left side of the widest target.
 const WORDS: usize = 65536;
 
-// Bytes for a page.
+// Bytes for a page. This and the next stay two: each gives its array's length the name that contracts know.
 fn page_bytes() -> [u8; PAGE_BOUND]
     ensures { page_bound ≡ length result }
 {

@@ -44,7 +44,7 @@ pub const EVIDENCE_BYTES: usize = 8;
 // An entry of a listing: in the target table, the left side gives the right side. Laid out as in C, so that hosts can
 // lend runs of them.
 #[repr(C)]
-#[derive(Clone, Copy)]
+#[derive(Clone, Copy, PartialEq, Eq)]
 pub struct Entry {
     pub target: u8,
     pub right: u8,

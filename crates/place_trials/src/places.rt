@@ -5,7 +5,7 @@ use columns::ColumnSet;
 use listing::{Filled, RUN_BOUND, list_filled};
 use model::Entry;
 use std::io;
-use trial_kit::{keyed, listed, print_listed, same};
+use trial_kit::{keyed, listed, print_listed};
 
 // A listing call, whose work words are all 7 before.
 fn list(cat: &[u8], place: u32, budget: u32) -> Filled {
@@ -25,7 +25,7 @@ fn print_same(
         print!(rt; " left {}", first.left)?;
     }
     let verdict = match past.get(before.len()..) {
-        Some(rest) if same(rest, single) => "same",
+        Some(rest) if rest == single => "same",
         Some(rest) if rest.len() == single.len() => "entries differ",
         _ => "counts differ",
     };

@@ -92,6 +92,7 @@ fn present_set(target: Target, p: usize) -> u32
     let mut row = p;
     let mut above = target.members() as usize;
     let mut set: u32 = 0;
+    // It counts no index: the climb goes by the parents that the bytes name.
     'climb: loop {
         let o = code_at(cat, first + 4 * at) as usize;
         let c = short_at(cat, o) as usize;

@@ -10,4 +10,4 @@ mod line;
 
 pub use album::{ALBUM, EMPTY, EQUAL, GROUPS, LONE, MISSING_TWICE, THREE, TWO_KEYS};
 pub use build::{coded, deep, flat, keyed, two};
-pub use line::{listed, print_answer, print_entry, print_listed, same};
+pub use line::{listed, print_answer, print_entry, print_listed};

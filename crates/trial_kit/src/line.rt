@@ -31,12 +31,6 @@ pub fn listed(answer: Result<Progress, Refusal>, run: &[Entry]) -> &[Entry] {
     &run[..count.min(run.len())]
 }
 
-// Are the entries of two runs the same?
-pub fn same(a: &[Entry], b: &[Entry]) -> bool {
-    a.len() == b.len()
-        && a.iter().zip(b).all(|(a, b)| (a.target, a.left, a.right) == (b.target, b.left, b.right))
-}
-
 // An entry behind a comma and a space.
 pub fn print_entry(rt: &impl Print, e: Entry) -> io::Result<()> {
     let mut out = [0u8; 32];

@@ -20,10 +20,12 @@ pub fn check(rt: &impl Print, name: &str, cat: &[u8]) -> io::Result<()> {
     println!(rt; "")
 }
 
-// Is the record as it was?
-fn is_zero(e: &Entry) -> bool {
-    (e.target, e.right, e.left) == (0, 0, 0)
-}
+// A record as it was.
+const ZERO: Entry = Entry {
+    target: 0,
+    right: 0,
+    left: 0,
+};
 
 // The call on so many of the work words.
 pub fn trial_on(rt: &impl Print, case: Case<'_>, words: usize) -> io::Result<()> {
@@ -33,7 +35,7 @@ pub fn trial_on(rt: &impl Print, case: Case<'_>, words: usize) -> io::Result<()>
     let filled = list_filled(cat, place, budget, room, &mut work[..lent]);
     print!(rt; "{name} ")?;
     print_listed(rt, filled.answer)?;
-    let records = filled.run.iter().filter(|e| !is_zero(e)).count();
+    let records = filled.run.iter().filter(|e| **e != ZERO).count();
     let zeros = work.iter().filter(|word| **word == 0).count();
     print!(rt; " records {records} zeros {zeros}")?;
     for e in listed(filled.answer, &filled.run) {

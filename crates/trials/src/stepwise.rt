@@ -2,7 +2,7 @@
 use listing::{RUN_BOUND, list_filled};
 use model::{Entry, Refusal};
 use std::io;
-use trial_kit::{ALBUM, listed, same};
+use trial_kit::{ALBUM, listed};
 
 // The album's sets, and its last place.
 const LAST: u32 = 10;
@@ -46,7 +46,7 @@ fn list_in_steps(
         }
         let entries = listed(filled.answer, &filled.run);
         let (front, behind) = rest.split_at_checked(entries.len()).ok_or(Fault::Differs)?;
-        if !same(front, entries) {
+        if front != entries {
             return Err(Fault::Differs);
         }
         rest = behind;
