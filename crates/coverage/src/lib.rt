@@ -1,8 +1,9 @@
 // Not for callers: are the backed sets of a target covered, by a list's entries and by evidence? For one right at a
 // time, by the planes of the listed lefts and of the records' sets, and by that of the target's listed keys, which
 // cover for every right.
-// Relies on `presence` for the plane of backed sets, on `marks` for the others, on `table` for the right that a bit
-// stands for, and on `layout` for how many columns there are. Called by `verify`.
+// Relies on `presence` for the plane of backed sets, on `marks` for the others and the entries, on `evidence` for the
+// records, on `table` for the right that a bit stands for, and on `layout` for the target and its columns. Called by
+// `verify`.
 #![tactic(auto)]
 
 ghost use Rattle.std.specs.Prelude.{◌≤◌, ◌<◌, ◌≡◌, true, ◌↔◌};

@@ -2,5 +2,5 @@
 // some tables hold is sound; that each number is then read back from their file; that the file is accepted; and how
 // long it is.
 // Relies on the definitions of `model`, on its laws on grounds and accepted catalogues, and on those of `file` on
-// numbers. Cited by `standing`, `numerals`, `sheets`, `convert` and `conversion`.
+// numbers. Cited by `standing`, `sheets`, `convert` and `conversion`.
 #![tactic(auto)]

@@ -1,7 +1,8 @@
 // Not for callers: 15 of entries. May an entry stand in a list, may it stand behind another, and may all the entries
 // of a file from a position on?
 // Relies on the definitions of `model`, on `file` for numbers in a file and on `columns` for left sides. Called by
-// `unpacking`, `packing`, `packed`, `marks` and `soundness`; their proofs cite the laws on entries as bytes.
+// `unpacking`, `packing`, `packed` and `marks`; their proofs, and those of `verify` and `acceptance`, cite the laws on
+// entries as bytes.
 #![tactic(auto)]
 
 ghost use Rattle.std.specs.Prelude.{◌+◌, ◌*◌, ◌≤◌, ◌≡◌, length};

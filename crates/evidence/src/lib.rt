@@ -1,8 +1,8 @@
-// Not for callers: evidence records read from bytes, and the sides that a target allows. And laws: that the tests of
-// specs/Evidence.antt and specs/Verify.antt of `model` say what stands beside them in words, that records are read
-// back from their bytes, and how a function is shown to answer true exactly if something holds.
+// Not for callers: evidence records read from bytes, one and a run of them, and the sides that a target allows. And
+// laws: that the tests of specs/Evidence.antt and specs/Verify.antt of `model` say what stands beside them in words,
+// that records are read back from their bytes, and how a function is shown to answer true exactly if something holds.
 // Relies on the definitions of `model`, on `file` for numbers in a file and on `bits` for powers of two. Called by
-// `records`, `marks` and `soundness`; its laws are cited by these, by `coverage`, `verify` and `acceptance`.
+// `records`, `marks`, `soundness`, `coverage` and `verify`; its laws are cited by these and by `acceptance`.
 #![tactic(auto)]
 
 ghost use Rattle.std.specs.Prelude.{◌<◌, ◌≡◌, true, ◌↔◌};

@@ -1,7 +1,8 @@
 // Not for callers: numbers in a file, unsigned and little-endian, read and written at any position; a byte past the end
 // reads as 0.
 // Relies on the definitions of `model`. Called by `layout`, `grounds`, `entries`, `packing`, `unpacking`, `evidence`
-// and `marks`; the laws on numbers as bytes stand in proofs/.
+// and `marks`, and by `attributes`, `scanner`, `elements`, `tags` and `sheets`; the laws on numbers as bytes stand in
+// proofs/.
 #![tactic(auto)]
 
 ghost use Rattle.std.specs.Prelude.{◌+◌, ◌≤◌, ◌≡◌, length};

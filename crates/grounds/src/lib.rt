@@ -1,6 +1,6 @@
 // Not for callers: the grounds against a file: refusals 1 to 7, one function for each, tried in the stated order.
 // Relies on `layout` and `file` for what stands where and on the definitions of `model`.
-// Called by `catalogue`, `question`, `steps`, `verify` and `pages`.
+// Called by `catalogue`, `question`, `steps`, `verify`, `convert` and `pages`.
 #![tactic(auto)]
 
 ghost use Rattle.std.specs.Prelude.{◌≡◌};

@@ -1,5 +1,5 @@
 // Not for callers: what stands where in a catalogue, for any bytes and any numbers of tables, rows and columns.
-// Nothing is parsed into a state of its own.
+// Nothing is parsed into a state of its own. And a table of an accepted catalogue as a target (`Target`).
 // Relies on `file` for numbers in a file and on the definitions of `model`. Called by `grounds`, `catalogue` and all
 // that ask a catalogue.
 #![tactic(auto)]

@@ -1,9 +1,9 @@
 // Not for callers: whether sets of columns are covered for a target and a right, and whether the entries for the two
 // are sound, by planes of bits. The lefts that are listed for the two are marked at their mirrors, on another plane the
 // listed keys of the target, and the sets of records at themselves; then each plane is closed over smaller sets, and
-// read. Which sets are backed is read off a plane that is handed in.
-// Relies on the definitions of `model` and `columns`, on `entries` and `evidence` for entries and records in bytes, and
-// on `planes` for the closing. Called by `soundness` and `coverage`.
+// read. Which sets are backed is read off a plane that is handed in. And the entries of a packed list as a run.
+// Relies on the definitions of `model` and `columns`, on `entries` and `evidence` for entries and records in bytes, on
+// `file` for a byte, and on `planes` for the closing. Called by `soundness`, `coverage` and `verify`.
 #![tactic(auto)]
 
 ghost use Rattle.std.specs.Prelude.{ℕ, ◌+◌, ◌^◌, ◌≤◌, ◌<◌, ◌≡◌, true, ◌↔◌, length};

@@ -3,8 +3,8 @@
 // read off the plane of the listed lefts, one right at a time, and that those for a column contain no listed key off
 // the plane of the listed keys.
 // Relies on `evidence` for the sides that a target allows, on `presence` for the backed lefts, on `keys` and `scan` for
-// the agree sets that occur, on `entries` for entries in bytes, on `planes` and `marks` for the planes, on `table` for
-// the right that a bit stands for, and on `layout` for how many rows and columns there are. Called by `verify`.
+// the agree sets that occur, on `planes` and `marks` for the planes and the entries, on `table` for the right that a
+// bit stands for, and on `layout` for the target, its rows and columns. Called by `verify`.
 #![tactic(auto)]
 
 ghost use Rattle.std.specs.Prelude.{ℕ, ◌+◌, ◌≤◌, ◌<◌, ◌≡◌, true, ◌↔◌, length};

@@ -2,8 +2,9 @@
 // catalogue is checked first, then the list, then all records, all entries and all backed sets, target by target. It
 // brings its own memory.
 // Relies on `grounds` and `packed` for what stands against the catalogue and the list, on `records`, `soundness` and
-// `coverage` for the records, entries and sets of one target, and on `layout` for how many tables there are.
-// `acceptance` has the theorems about what it accepts. Called by hosts and programs.
+// `coverage` for the records, entries and sets of one target, on `evidence` and `marks` for records and entries as
+// runs, and on `layout` for the targets. `acceptance` has the theorems about what it accepts. Called by hosts and
+// programs.
 #![tactic(auto)]
 
 ghost use Rattle.std.specs.Prelude.{◌<◌, ◌≡◌, true, ◌↔◌};
