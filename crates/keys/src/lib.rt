@@ -34,7 +34,8 @@ fn lay_table(
     keys: &mut [u16; SIZE],
 )
     requires o_bound { (o < 2 ^ 32) × (low + c ≤ column_bound) × (end ≤ row_bound) × (length keys.old ≡ keys_size) }
-    requires by_index { (q : ℕ) → q < end → o + 6 + get_or reached.now q 0 * (2 + 4 * c) + (2 + 4 * c) ≤ length cat.now }
+    requires by_index { (q : ℕ) → q < end
+        → o + 6 + get_or reached.now q 0 * (2 + 4 * c) + (2 + 4 * c) ≤ length cat.now }
     ensures { LaidTable cat.now o c low reached.now end set 0 keys.old
         keys.new }
 {

@@ -37,7 +37,8 @@ fn mark_leader(
     q: usize,
     marks: &mut [bool; ROWS],
 )
-    requires q_lt_row_bound { (q < row_bound) × (get_or leaders.now q 0 < row_bound) × ((right ≡ row → ⊥) → right < column_bound) }
+    requires q_lt_row_bound { (q < row_bound) × (get_or leaders.now q 0 < row_bound)
+        × ((right ≡ row → ⊥) → right < column_bound) }
     requires marks_len { length marks.old ≡ row_bound }
     ensures { MarkedMore keys.now leaders.now right q marks.old
         marks.new }
