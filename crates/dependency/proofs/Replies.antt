@@ -15,14 +15,15 @@ use Rattle.model.specs.Refusal.{number}
 use Rattle.model.specs.declared.Refusal.{Refusal}
 use Rattle.model.specs.declared.Refusal.TheVariants.{UnknownRight}
 use Rattle.model.specs.declared.RowPair.{RowPair}
-use Rattle.model.specs.Reply.{answered, ask_reply, pair_reply, words_after}
+use Rattle.model.specs.Reply.{refused, answered, ask_reply, pair_reply, words_after}
 use Rattle.model.specs.Question.{target_code, left_side_code, right_side_code, sides_code}
 use Rattle.model.specs.Question.{question_code, ask_meaning, pair_meaning}
 use Rattle.model.specs.View.{holds}
 use Rattle.model.specs.Pair.{first_pair}
 use Rattle.model.specs.Target.{view}
 use Rattle.model.proofs.Codes.{number_pos}
-use Rattle.model.proofs.Grounds.{or_else_left, or_else_both, if_lt_passes, if_lt_fails, reply_answered}
+use Rattle.model.proofs.Grounds.{or_else_left, or_else_both, if_lt_passes, if_lt_fails}
+use Rattle.model.proofs.Grounds.{reply_refused, reply_answered}
 use Rattle.search.specs.Strays.{rows_found}
 use Rattle.dependency.specs.Posed.{Posed}
 
@@ -60,6 +61,16 @@ module _ (cat : List ℕ) (target left right words : ℕ) where
   unfolding pair_meaning
   pair_meant z = reply_answered _ z
 
+  -- the same of any code that is the question's: a refusal, and rows that are told
+  pub pair_refused : {code : ℕ} (r : Refusal) → code ≡ question_code cat target left right words → (code ≡ 0 → ⊥)
+      → number r ≡ code → refused (number r) ≡ pair_meaning cat target left right words
+  unfolding pair_meaning
+  pair_refused r e n f = reply_refused _ (f ∙ e) (λ z. n (sym f ∙ z))
+
+  pub pair_told : {code : ℕ} {told : List ℕ} → code ≡ question_code cat target left right words → code ≡ 0
+      → told ≡ first_pair (view cat target) left right → answered told ≡ pair_meaning cat target left right words
+  pair_told e z f = ap answered f ∙ pair_meant (sym e ∙ z)
+
 -- an answer as a reply
 ask_answered : (told : Bool) → ask_reply (Ok told) ≡ answered (pick told 1 0 ∷ [])
 ask_answered true = refl
@@ -78,9 +89,9 @@ module _ (cat : List ℕ) (target left right words : ℕ) (z : 0 ≡ question_co
   ask_told told f =
       ask_answered told ∙ ap (λ (h : Bool). answered (pick h 1 0 ∷ [])) f ∙ ask_meant cat target left right words (sym z)
 
-  pub pair_told : (told : Option RowPair) → rows_found told ≡ first_pair (view cat target) left right
+  pub pair_answer_told : (told : Option RowPair) → rows_found told ≡ first_pair (view cat target) left right
       → pair_reply (Ok told) ≡ pair_meaning cat target left right words
-  pair_told told f = pair_answered told ∙ ap answered f ∙ pair_meant cat target left right words (sym z)
+  pair_answer_told told f = pair_answered told ∙ pair_told cat target left right words refl (sym z) f
 
 -- the work words afterwards
 pub words_kept : {code : ℕ} (words : List ℕ) (why : Refusal) → number why ≡ code → words ≡ words_after code words

@@ -102,6 +102,7 @@ less_tag s p q i g f h =
     record {
       behind = omega (arith, g.low, f.low);
       within = omega arith;
+      begins = g.same ∙ f.same ∙ ap (λ (k : ℕ). tags_in (drop k s)) (omega arith);
       same = g.same ∙ (f.same ∙ (from_byte s i f.within
           ∙ (ap (λ (t : Bool). pick t
           ((number_in (drop (i + 2) s), cells_in (drop (i + 2) s)) ∷ tags_in (drop (i + 1) s))

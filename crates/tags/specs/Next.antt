@@ -1,5 +1,5 @@
 -- The tags of a text from a position on.
-use Rattle.std.specs.Prelude.{ℕ, ◌+◌, ◌≤◌, ◌<◌, ◌≡◌, Bool, ◌&&◌, List, ◌∷◌, eqb, length, drop}
+use Rattle.std.specs.Prelude.{ℕ, ◌+◌, ◌-◌, ◌≤◌, ◌<◌, ◌≡◌, Bool, ◌&&◌, List, ◌∷◌, eqb, length, drop}
 use Rattle.model.specs.Bytes.{byte_at}
 use Rattle.model.specs.Xml.{less, row_letter}
 use Rattle.model.specs.Form.{number_in, cells_in}
@@ -29,8 +29,9 @@ pub record NextLess (s : List ℕ) (p r : ℕ) : Type 0 where
   pub same : tags_in (drop p s) ≡ tags_in (drop r s)
   pub here : byte_at s r ≡ less
 
--- r is where the first tag from p on has its table's number, with its attributes behind
+-- r is where the first tag from p on has its table's number, with its attributes behind; the tag begins two bytes before
 pub record NextTag (s : List ℕ) (p r : ℕ) : Type 0 where
-  pub behind : p < r
+  pub behind : p + 2 ≤ r
   pub within : r ≤ length s
+  pub begins : tags_in (drop p s) ≡ tags_in (drop (r - 2) s)
   pub same : tags_in (drop p s) ≡ (number_in (drop r s), cells_in (drop r s)) ∷ tags_in (drop r s)

@@ -3,7 +3,7 @@ use mathlib.Core.Path.{refl}
 use Rattle.model.specs.Question.{pair_meaning}
 use Rattle.model.specs.Reply.{pair_reply}
 use Rattle.model.proofs.Codes.{handed_reply}
-use Rattle.dependency.proofs.Replies.{question_posed, pair_told, words_kept, words_zeroed}
+use Rattle.dependency.proofs.Replies.{question_posed, pair_answer_told, words_kept, words_zeroed}
 use Rattle.dependency.proofs.pair.Goals as goal
 
 pub returns-in_err-check : goal.returns-in_err-check
@@ -18,6 +18,6 @@ breaking_pair-requires c = question_posed _ _ _ _ _ c.in_ok-check.ensures
 
 pub returns : goal.returns
 returns c = record {
-  result_value = pair_told _ _ _ _ _ c.in_ok-check.ensures _ c.breaking_pair.ensures;
+  result_value = pair_answer_told _ _ _ _ _ c.in_ok-check.ensures _ c.breaking_pair.ensures;
   work_after = words_zeroed _ c.in_ok-check.ensures c.zero_words.ensures;
 }
