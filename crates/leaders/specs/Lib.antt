@@ -1,2 +1,3 @@
 pub mod Leaders
+pub mod Table
 pub mod Keys
