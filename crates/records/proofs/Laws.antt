@@ -6,7 +6,7 @@ use mathlib.Core.Bool.{Bool}
 use mathlib.Core.List.{List}
 use native.Mathlib.Omega.{arith}
 use lib.Dec.{T, eqb}
-use borrow.Author.Tests.{eq-eqb, ne_eqb}
+use borrow.Author.Tests.{ne_eqb}
 use Rattle.columns.specs.Test.{pick}
 use Rattle.columns.proofs.Bits.{bit_full}
 use Rattle.model.specs.Bounds.{row}
@@ -25,12 +25,8 @@ use Rattle.evidence.specs.Sides.{SidesFit}
 use Rattle.evidence.proofs.Sides.{sides_own}
 use Rattle.records.specs.True.{TrueBy, AllTrueBy, AllTrue}
 
--- the right side by keys: the row, or a column
-pub by_row : (keys : List ℕ) (right p q : ℕ) → right ≡ row → eqb p q ≡ agree_right (key_view keys 0 0) right p q
-by_row keys right p q e =
-    ap (λ (b : Bool). pick b (eqb p q) (eqb (key_at keys right p) (key_at keys right q))) (sym (eq-eqb right row e))
-
-pub by_column : (keys : List ℕ) (right p q : ℕ) → (right ≡ row → ⊥)
+-- a right side by keys that is a column
+by_column : (keys : List ℕ) (right p q : ℕ) → (right ≡ row → ⊥)
     → eqb (key_at keys right p) (key_at keys right q) ≡ agree_right (key_view keys 0 0) right p q
 by_column keys right p q n =
     ap (λ (b : Bool). pick b (eqb p q) (eqb (key_at keys right p) (key_at keys right q))) (sym (ne_eqb right row n))

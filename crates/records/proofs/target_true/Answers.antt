@@ -9,6 +9,6 @@ pub returns : goal.returns
 returns c =
     let t = c.args.target in
     let by = all_true_by t.cat.now t.accepted _ t.table _ _ _ _ t.known
-    c.members-n.ensures.is c.inherited-low.ensures.is c.rows.ensures.is
+    c.members-n.ensures.is c.inherited-low.ensures.is c.rows-end.ensures.is
     (keyed_for _ c.members-n.ensures.is refl c.lay_all.ensures) in
     same_answer by.0 by.1 c.all_true.ensures
