@@ -16,16 +16,15 @@ ghost use Rattle.records.specs.True.{AgreeAt, TrueBy, TrueByFor, AllTrueBy, AllT
 use evidence::{EvidenceRecords, sides_fit};
 use keys::lay_all;
 use layout::Target;
-use leaders::{ROWS, RowKeys, SIZE};
+use leaders::{RowKeys, SIZE};
 use model::Evidence;
 
 // Do rows p and q agree on column k, if it is in the set?
-fn agree_at(keys: &[u16; SIZE], set: u32, k: u32, p: usize, q: usize) -> bool
+fn agree_at(keys: RowKeys, set: u32, k: u32, p: usize, q: usize) -> bool
     requires { (k < column_bound) × (p < row_bound) × (q < row_bound) }
-    ensures { (result ≡ true) ↔ AgreeAt keys.now set p q k }
+    ensures { (result ≡ true) ↔ AgreeAt keys.entry set p q k }
 {
-    let at = k as usize * ROWS;
-    (set >> k) % 2 == 0 || keys[at + p] == keys[at + q]
+    (set >> k) % 2 == 0 || keys.key(k, p) == keys.key(k, q)
 }
 
 // Do they agree on a set of members?
@@ -33,13 +32,13 @@ fn agree_on(keys: RowKeys, set: u32, p: usize, q: usize) -> bool
     requires { (p < row_bound) × (q < row_bound) }
     ensures { (result ≡ true) ↔ AgreeOn (view_by keys.entry) set p q }
 {
-    (0..keys.members).all(|k| agree_at(keys.keys, set, k, p, q))
+    (0..keys.members).all(|k| agree_at(keys, set, k, p, q))
 }
 
 // Is a record of the target true? Where its rows agree on the set and disagree on the right, the right is not in the
 // set.
 fn is_true(keys: RowKeys, low: u32, e: Evidence) -> bool
-    ensures { (result ≡ true) ↔ TrueBy keys.entry.keys.now keys.entry.members low keys.entry.rows e }
+    ensures { (result ≡ true) ↔ TrueBy keys.entry low e }
 {
     let set = u32::from(e.set);
     let right = u32::from(e.right);
@@ -54,15 +53,14 @@ fn is_true(keys: RowKeys, low: u32, e: Evidence) -> bool
 
 // Is a record true if it is one of the target?
 fn is_true_for(keys: RowKeys, low: u32, target: u32, e: Evidence) -> bool
-    ensures { (result ≡ true) ↔ TrueByFor keys.entry.keys.now keys.entry.members low keys.entry.rows target e }
+    ensures { (result ≡ true) ↔ TrueByFor keys.entry low target e }
 {
     u32::from(e.target) != target || is_true(keys, low, e)
 }
 
 // Are all records of the target true?
 fn all_true(keys: RowKeys, low: u32, target: u32, records: EvidenceRecords) -> bool
-    ensures { (result ≡ true)
-        ↔ AllTrueBy keys.entry.keys.now keys.entry.members low keys.entry.rows target (records_of records.entry) }
+    ensures { (result ≡ true) ↔ AllTrueBy keys.entry low target (records_of records.entry) }
 {
     (0..records.count).all(|i| is_true_for(keys, low, target, records.record(i)))
 }
