@@ -3,14 +3,14 @@
 // Relies on the definitions of `leaders` for keys. Called by `scan`; `lines` reads the numbers.
 #![tactic(auto)]
 
-ghost use Rattle.std.specs.Prelude.{◌+◌, ◌≤◌, ◌<◌, ◌≡◌, true, IfSome};
+ghost use Rattle.std.specs.Prelude.{◌+◌, ◌<◌, ◌≡◌, true, IfSome};
 ghost use Rattle.columns.specs.Bound.{column_bound};
 ghost use Rattle.model.specs.Bounds.{row_bound};
 ghost use Rattle.classes.specs.Classes.{Numbering, OnlyMember, SameClasses, Numbered};
 
 use bits::power;
 use columns::COLUMN_BOUND;
-use leaders::{ROWS, SIZE};
+use leaders::{ROWS, RowKeys, SIZE};
 
 // How many numbers a byte has; `byte_bound` of specs/Classes.antt is the same number in the definitions.
 const BYTE_BOUND: usize = 256;
@@ -58,14 +58,15 @@ fn number_row(
 }
 
 // Numbers the rows on member k, and answers whether all of them are numbered.
-fn number_member(keys: &[u16; SIZE], k: usize, end: usize, bytes: &mut [u8; BYTES]) -> bool
-    requires { (k < column_bound) × (end ≤ row_bound) }
+fn number_member(keys: RowKeys, k: usize, bytes: &mut [u8; BYTES]) -> bool
+    requires { k < column_bound }
     ensures only_member { OnlyMember k bytes.old bytes.new }
-    ensures member_numbered { result ≡ true → SameClasses keys.now k end bytes.new }
+    ensures member_numbered { result ≡ true → SameClasses keys.entry.keys.now k keys.entry.rows bytes.new }
 {
+    let all = keys.keys;
     let mut count = 0;
-    for q in 0..end {
-        match number_row(keys, k, q, count, bytes) {
+    for q in 0..keys.rows {
+        match number_row(all, k, q, count, bytes) {
             Some(next) => count = next,
             None => return false,
         }
@@ -73,15 +74,14 @@ fn number_member(keys: &[u16; SIZE], k: usize, end: usize, bytes: &mut [u8; BYTE
     true
 }
 
-// Numbers the rows on each of the first n members that has few enough classes, and answers which these are. A member
-// that it left out would only cost time.
-pub fn number(keys: &[u16; SIZE], n: u32, end: usize, bytes: &mut [u8; BYTES]) -> u32
-    requires { (n ≤ column_bound) × (end ≤ row_bound) }
-    ensures { Numbered keys.now n end result bytes.new }
+// Numbers the rows on each of the members that has few enough classes, and answers which these are. A member that it
+// left out would only cost time.
+pub fn number(keys: RowKeys, bytes: &mut [u8; BYTES]) -> u32
+    ensures { Numbered keys.entry.keys.now keys.entry.members keys.entry.rows result bytes.new }
 {
     let mut few = 0;
-    for k in 0..n {
-        if number_member(keys, k as usize, end, bytes) {
+    for k in 0..keys.members {
+        if number_member(keys, k as usize, bytes) {
             few |= power(k);
         }
     }

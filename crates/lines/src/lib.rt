@@ -8,40 +8,36 @@
 mod part;
 mod wide;
 
-ghost use Rattle.std.specs.Prelude.{◌≤◌, ◌<◌};
-ghost use Rattle.columns.specs.Bound.{column_bound};
+ghost use Rattle.std.specs.Prelude.{◌<◌};
 ghost use Rattle.model.specs.Bounds.{row_bound};
 ghost use Rattle.table.specs.Broken.{agree_set_of};
-ghost use Rattle.leaders.specs.Keys.{key_view};
+ghost use Rattle.leaders.specs.Table.{view_by};
 ghost use Rattle.classes.specs.Classes.{Numbered};
 ghost use Rattle.lines.specs.Lines.{LineOf};
 
 use bits::power;
 use classes::BYTES;
-use leaders::{ROWS, SIZE};
+use leaders::{ROWS, RowKeys};
 use part::numbered_line;
 use wide::add_wide;
 
-// The agree sets of row x with the rows after it, by all n members. The line and its two parts may hold anything
-// before.
+// The agree sets of row x with the rows after it, by all members. The line and its two parts may hold anything before.
 pub fn line_of(
-    keys: &[u16; SIZE],
+    keys: RowKeys,
     bytes: &[u8; BYTES],
     few: u32,
-    n: u32,
     x: usize,
-    end: usize,
     low: &mut [u8; ROWS],
     high: &mut [u8; ROWS],
     line: &mut [u16; ROWS],
 )
-    requires n_le_column_bound { (n ≤ column_bound) × (x < row_bound) × (end ≤ row_bound) }
-    requires numbered { Numbered keys.now n end few bytes.now }
-    ensures { LineOf (agree_set_of (key_view keys.now n end) x) x end line.new }
+    requires x_lt_row_bound { x < row_bound }
+    requires numbered { Numbered keys.keys.now keys.members keys.rows few bytes.now }
+    ensures { LineOf (agree_set_of (view_by keys.entry) x) x keys.entry.rows line.new }
 {
-    numbered_line(bytes, few, x, end, low, high, line);
-    if few == power(n) - 1 {
+    numbered_line(bytes, few, x, keys.rows, low, high, line);
+    if few == power(keys.members) - 1 {
         return;
     }
-    add_wide(keys, few, n, x, end, line);
+    add_wide(keys, few, x, line);
 }

@@ -1,18 +1,17 @@
 // What each agree set that occurs breaks: the words of the table of broken rights, before they are closed.
 ghost use Rattle.std.specs.Prelude.{ℕ, suc, ◌-◌, ◌^◌, ◌≤◌, ◌<◌, length};
 ghost use Rattle.columns.specs.Bound.{column_bound};
-ghost use Rattle.model.specs.Bounds.{row_bound};
 ghost use Rattle.model.specs.View.{View};
 ghost use Rattle.table.specs.Words.{word};
 ghost use Rattle.table.specs.Broken.{Scanned};
-ghost use Rattle.leaders.specs.Keys.{Keyed};
+ghost use Rattle.leaders.specs.Table.{KeyedBy};
 ghost use Rattle.filled.specs.Filled.{Filled};
 ghost use Rattle.scan.specs.SeenSets.{broken_word};
 
 use crate::SETS;
 use crate::pairs::occurring;
 use bits::power;
-use leaders::SIZE;
+use leaders::RowKeys;
 
 // Writes what each agree set that is seen breaks.
 fn write_broken(seen: &[bool; SETS], n: u32, words: &mut [u32])
@@ -27,12 +26,12 @@ fn write_broken(seen: &[bool; SETS], n: u32, words: &mut [u32])
 
 // The words of the view that the keys are laid for, not yet closed: at each agree set that occurs the rights that are
 // not in it. No word has a bit above that of the row.
-pub fn write(keys: &[u16; SIZE], n: u32, end: usize, words: &mut [u32])
-    requires { (n ≤ column_bound) × (end ≤ row_bound) × (2 ^ n ≤ length words.old) }
-    ensures { ((s : ℕ) → s < 2 ^ n → word words.new s < 2 ^ suc n)
-        × ((v : View) → Keyed v (2 ^ n - 1) n end keys.now → Scanned v words.new) }
+pub fn write(keys: RowKeys, words: &mut [u32])
+    requires { 2 ^ keys.members ≤ length words.old }
+    ensures { ((s : ℕ) → s < 2 ^ keys.entry.members → word words.new s < 2 ^ suc keys.entry.members)
+        × ((v : View) → KeyedBy v keys.entry → Scanned v words.new) }
 {
     let mut seen = [false; SETS];
-    occurring(keys, n, end, &mut seen);
-    write_broken(&seen, n, words);
+    occurring(keys, &mut seen);
+    write_broken(&seen, keys.members, words);
 }

@@ -1,19 +1,18 @@
 // The seeds, where less than a word for each left side is lent: one bit for each agree set.
 ghost use Rattle.std.specs.Prelude.{◌+◌, ◌-◌, ◌*◌, ◌^◌, ◌≤◌, ◌<◌, ◌≡◌, length};
 ghost use Rattle.columns.specs.Bound.{column_bound};
-ghost use Rattle.model.specs.Bounds.{row_bound};
 ghost use Rattle.model.specs.View.{View, Equivalence};
 ghost use Rattle.table.specs.Words.{word};
 ghost use Rattle.planes.specs.Bits.{plane_word};
 ghost use Rattle.planes.specs.Plane.{seed_words, SeedsBelow, Sown};
-ghost use Rattle.leaders.specs.Keys.{Keyed};
+ghost use Rattle.leaders.specs.Table.{KeyedBy};
 ghost use Rattle.filled.specs.Filled.{Filled};
 ghost use Rattle.scan.specs.SeenSets.{seen_at};
 
 use crate::SETS;
 use crate::pairs::occurring;
 use bits::power;
-use leaders::SIZE;
+use leaders::RowKeys;
 
 // The bits of the 32 agree sets that stand in word i.
 fn gathered(seen: &[bool; SETS], i: u32) -> u32
@@ -45,28 +44,27 @@ fn write_seeds(seen: &[bool; SETS], n: u32, words: &mut [u32])
 }
 
 // The seeds of the view that the keys are laid for: bit s is 1 exactly if s is the agree set of a pair of rows. They
-// stand among the sets of m columns, of which the members are the first n.
-pub fn sow_among(keys: &[u16; SIZE], n: u32, m: u32, end: usize, words: &mut [u32])
-    requires { (n ≤ column_bound) × (5 ≤ m) × (m ≤ column_bound) × (end ≤ row_bound)
-        × (seed_words m ≤ length words.old) }
+// stand among the sets of m columns, of which the members are the first.
+pub fn sow_among(keys: RowKeys, m: u32, words: &mut [u32])
+    requires { (5 ≤ m) × (m ≤ column_bound) × (seed_words m ≤ length words.old) }
     ensures { (length words.new ≡ length words.old)
-        × ((v : View) → Keyed v (2 ^ n - 1) n end keys.now → SeedsBelow v m words.new) }
+        × ((v : View) → KeyedBy v keys.entry → SeedsBelow v m words.new) }
 {
     let mut seen = [false; SETS];
-    occurring(keys, n, end, &mut seen);
+    occurring(keys, &mut seen);
     write_seeds(&seen, m, words);
 }
 
 // The seeds among the sets of members, with no rights cached behind them and the plane that follows them. It does not
 // call `sow_among`: a listing's stack has no room for a second array of agree sets beside that of `write`.
-pub fn sow(keys: &[u16; SIZE], n: u32, end: usize, words: &mut [u32])
-    requires { (5 ≤ n) × (n ≤ column_bound) × (end ≤ row_bound) × (2 ^ (n - 4) + 4 ≤ length words.old) }
-    ensures sown { (v : View) → Keyed v (2 ^ n - 1) n end keys.now → Equivalence v
-        → Sown v n words.new }
-    ensures n_after { word words.new (2 ^ (n - 4) + 1) ≡ 0 }
+pub fn sow(keys: RowKeys, words: &mut [u32])
+    requires { (5 ≤ keys.members) × (2 ^ (keys.members - 4) + 4 ≤ length words.old) }
+    ensures sown { (v : View) → KeyedBy v keys.entry → Equivalence v → Sown v keys.entry.members words.new }
+    ensures n_after { word words.new (2 ^ (keys.entry.members - 4) + 1) ≡ 0 }
 {
+    let n = keys.members;
     let mut seen = [false; SETS];
-    occurring(keys, n, end, &mut seen);
+    occurring(keys, &mut seen);
     write_seeds(&seen, n, words);
     words[power(n - 4) as usize + 1] = 0;
 }

@@ -8,7 +8,7 @@ loop-k-preserved c =
     let f = c.number_member.ensures in
     elim c.if-number_member.branch [
       | then-number_member w ↦ rw w.few-is (
-          numbered_more c.requires.1 w.power-few.ensures f.only_member (f.member_numbered w.if-number_member.true)
+          numbered_more c.args.keys.short w.power-few.ensures f.only_member (f.member_numbered w.if-number_member.true)
           c.loop-k.invariant)
-      | else-number_member w ↦ rw w.few-is (numbered_skipped c.requires.1 f.only_member c.loop-k.invariant)
+      | else-number_member w ↦ rw w.few-is (numbered_skipped c.args.keys.short f.only_member c.loop-k.invariant)
     ]

@@ -3,4 +3,4 @@ use Rattle.classes.specs.Classes.{Numbered}
 use Rattle.classes.proofs.number.Given as goal
 
 abbrev pub invariant-loop-k : goal.invariant-loop-k
-invariant-loop-k l = Numbered l.keys l.k l.end l.few l.bytes
+invariant-loop-k l = Numbered l.keys.keys.now l.k l.keys.rows l.few l.bytes

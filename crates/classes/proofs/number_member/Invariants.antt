@@ -5,5 +5,5 @@ use Rattle.classes.proofs.number_member.Given as goal
 abbrev pub invariant-loop-q : goal.invariant-loop-q
 invariant-loop-q l = record {
   only_member : OnlyMember l.k l.initial.bytes l.bytes;
-  numbering : Numbering l.keys l.k l.q l.count l.bytes;
+  numbering : Numbering l.keys.keys.now l.k l.q l.count l.bytes;
 }

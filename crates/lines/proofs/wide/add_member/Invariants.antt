@@ -6,6 +6,6 @@ use Rattle.lines.proofs.wide.add_member.Given as goal
 
 abbrev pub invariant-loop-q : goal.invariant-loop-q
 invariant-loop-q l = record {
-  written : LineOf (with_member l.keys l.k l.x l.initial.line) l.x l.q l.line;
-  ahead : Ahead l.q l.end l.initial.line l.line;
+  written : LineOf (with_member l.keys.keys.now l.k l.x l.initial.line) l.x l.q l.line;
+  ahead : Ahead l.q l.keys.rows l.initial.line l.line;
 }

@@ -11,6 +11,6 @@ loop-k-preserved c = λ bytes o. c.add_if.ensures bytes (c.loop-k.invariant byte
 pub returns : goal.returns
 returns c = λ bytes o.
     let a = c.args in
-    let all : c.loop-k.k ≡ a.n = omega arith in
-    subst (λ (k : ℕ). LineOf (met_at a.keys.now bytes a.few k a.x) a.x a.end c.loop-k.line) all
+    let all : c.loop-k.k ≡ a.keys.members = omega arith in
+    subst (λ (k : ℕ). LineOf (met_at a.keys.keys.now bytes a.few k a.x) a.x a.keys.rows c.loop-k.line) all
     (c.loop-k.invariant bytes o)

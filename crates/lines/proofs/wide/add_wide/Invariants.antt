@@ -6,5 +6,5 @@ use Rattle.lines.proofs.wide.add_wide.Given as goal
 
 abbrev pub invariant-loop-k : goal.invariant-loop-k
 invariant-loop-k l =
-    (bytes : List ℕ) → LineOf (met_at l.keys bytes l.few 0 l.x) l.x l.end l.initial.line
-    → LineOf (met_at l.keys bytes l.few l.k l.x) l.x l.end l.line
+    (bytes : List ℕ) → LineOf (met_at l.keys.keys.now bytes l.few 0 l.x) l.x l.keys.rows l.initial.line
+    → LineOf (met_at l.keys.keys.now bytes l.few l.k l.x) l.x l.keys.rows l.line

@@ -3,8 +3,8 @@ use Rattle.scan.proofs.Seeing.{blank_begun}
 use Rattle.scan.proofs.Writing.{written_small, written_scanned}
 use Rattle.scan.proofs.broken.write.Goals as goal
 
-pub occurring-requires-clause-blank : goal.occurring-requires-clause-blank
-occurring-requires-clause-blank c = blank_begun
+pub occurring-requires : goal.occurring-requires
+occurring-requires c = blank_begun
 
 pub returns : goal.returns
 returns c =

@@ -5,11 +5,11 @@ use Rattle.scan.proofs.Seeing.{blank_begun}
 use Rattle.scan.proofs.Writing.{sown_among, sown}
 use Rattle.scan.proofs.seeds.sow.Goals as goal
 
-pub occurring-requires-clause-blank : goal.occurring-requires-clause-blank
-occurring-requires-clause-blank c = blank_begun
+pub occurring-requires : goal.occurring-requires
+occurring-requires c = blank_begun
 
 pub write_seeds-requires : goal.write_seeds-requires
-write_seeds-requires c = (c.requires.0, c.requires.1, omega (arith, two_planes c.args.n c.requires.0))
+write_seeds-requires c = (c.requires.0, c.args.keys.few, omega (arith, two_planes c.args.keys.members c.requires.0))
 
 pub returns-clause-sown : goal.returns-clause-sown
 returns-clause-sown c =
