@@ -16,25 +16,8 @@ use Rattle.leaders.specs.Keys.{key_at}
 use Rattle.search.specs.Strays.{same_right, strays, follows, LowerLeaders, MarkedMore, MarkedBelow, row_after}
 use Rattle.search.specs.Strays.{NoneBefore}
 
--- the test of a row, where the right side is the row and where it is a member
+-- the test of a row: is it led by p, and does it stray?
 module _ (keys leaders : List ℕ) (a q : ℕ) where
-  pub strays_row : a ≡ row → not (eqb (get_or leaders q 0) q) ≡ strays keys leaders a q
-  unfolding strays
-  strays_row e =
-      sym
-      (ap
-      (λ (t : Bool). not (pick t (eqb (get_or leaders q 0) q)
-      (eqb (key_at keys a (get_or leaders q 0)) (key_at keys a q)))) (eq-eqb a row e))
-
-  pub strays_member : (a ≡ row → ⊥) → not (eqb (key_at keys a (get_or leaders q 0)) (key_at keys a q))
-      ≡ strays keys leaders a q
-  unfolding strays
-  strays_member n =
-      sym
-      (ap
-      (λ (t : Bool). not (pick t (eqb (get_or leaders q 0) q)
-      (eqb (key_at keys a (get_or leaders q 0)) (key_at keys a q)))) (ne_eqb a row n))
-
   pub follows_not : (p : ℕ) → (get_or leaders q 0 ≡ p → ⊥) → false ≡ follows keys leaders a p q
   unfolding follows
   follows_not p n = sym (ap (λ (t : Bool). t && strays keys leaders a q) (ne_eqb (get_or leaders q 0) p n))

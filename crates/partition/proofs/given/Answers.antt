@@ -18,13 +18,13 @@ all keys n end x leaders alone wanted p few led e is =
 
 pub returns-then-leaders_of : goal.returns-then-leaders_of
 returns-then-leaders_of c =
-    all _ _ _ _ _ _ _ _ c.requires.n_le_column_bound c.leaders_of.ensures c.if-leaders_of.true c.power.ensures
+    all _ _ _ _ _ _ _ _ c.args.keys.few c.leaders_of.ensures c.if-leaders_of.true c.power.ensures
 
-pub given_members-requires-clause-back : goal.given_members-requires-clause-back
-given_members-requires-clause-back c = led_back _ _ _ _ _ _ c.leaders_of.ensures
+pub given_members-requires : goal.given_members-requires
+given_members-requires c = record { back = led_back _ _ _ _ _ _ c.leaders_of.ensures }
 
 pub returns : goal.returns
 returns c =
-    given_some _ _ _ _ _ _ c.requires.n_le_column_bound c.leaders_of.ensures _ _
+    given_some _ _ _ _ _ _ c.args.keys.few c.leaders_of.ensures _ _
     c.if-leaders_of.false
     c.given_members.ensures

@@ -8,6 +8,6 @@ use Rattle.partition.proofs.join.Given as goal
 
 abbrev pub invariant-loop-q : goal.invariant-loop-q
 invariant-loop-q l = record {
-  words : Filled 0 l.q (λ i. leader_word (get_or l.leaders i 0) (key_at l.keys l.k i)) l.initial.words l.words;
-  small : (i : ℕ) → i < l.q → key_at l.keys l.k i < key_bound;
+  words : Filled 0 l.q (λ i. leader_word (get_or l.leaders i 0) (key_at l.keys.keys.now l.k i)) l.initial.words l.words;
+  small : (i : ℕ) → i < l.q → key_at l.keys.keys.now l.k i < key_bound;
 }

@@ -3,4 +3,4 @@ use Rattle.partition.specs.Partition.{Led}
 use Rattle.partition.proofs.leaders_of.Given as goal
 
 abbrev pub invariant-loop-m : goal.invariant-loop-m
-invariant-loop-m l = Led l.keys l.m l.end l.x l.leaders l.alone
+invariant-loop-m l = Led l.keys.keys.now l.m l.keys.rows l.x l.leaders l.alone

@@ -35,10 +35,10 @@ module _ (keys : List ℕ) (n end own x start wanted kept k : ℕ) (few : n ≤ 
 
 pub returns-then-kept-eq0 : goal.returns-then-kept-eq0
 returns-then-kept-eq0 c =
-    ended _ _ _ _ _ _ _ _ _ c.requires.n_le_column_bound c.requires.x_bound c.requires.own_bound c.lacking.ensures
+    ended _ _ _ _ _ _ _ _ _ c.args.keys.few c.requires.x_bound c.requires.own_bound c.lacking.ensures
     c.given-kept.ensures c.loop-k.invariant (omega arith) c.if-kept-eq0.true
 
 pub returns : goal.returns
 returns c =
-    done _ _ _ _ _ _ _ _ _ c.requires.n_le_column_bound c.requires.x_bound c.requires.own_bound c.lacking.ensures
+    done _ _ _ _ _ _ _ _ _ c.args.keys.few c.requires.x_bound c.requires.own_bound c.lacking.ensures
     c.given-kept.ensures c.loop-k.invariant (omega arith)

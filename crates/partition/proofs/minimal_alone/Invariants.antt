@@ -8,4 +8,6 @@ use Rattle.partition.specs.Partition.{Needs}
 use Rattle.partition.proofs.minimal_alone.Given as goal
 
 abbrev pub invariant-loop-k : goal.invariant-loop-k
-invariant-loop-k l = (a : ℕ) → (bit l.kept a ≡ 1) ↔ ((bit l.initial.kept a ≡ 1) × Needs l.keys l.n l.end l.x l.k a)
+invariant-loop-k l =
+    (a : ℕ) → (bit l.kept a ≡ 1)
+    ↔ ((bit l.initial.kept a ≡ 1) × Needs l.keys.keys.now l.keys.members l.keys.rows l.x l.k a)

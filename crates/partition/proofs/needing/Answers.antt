@@ -32,6 +32,6 @@ module _ (keys : List ℕ) (n end x k rights p g r : ℕ) (i : In k x) (is : p �
 
 pub returns : goal.returns
 returns c =
-    needed c.args.keys.now _ _ _ _ _ _ _ _ (bit_one _ _ c.if-x-k-eq0.false)
+    needed c.args.keys.keys.now _ _ _ _ _ _ _ _ (bit_one _ _ c.if-x-k-eq0.false)
     c.power.ensures
     c.given.ensures c.lacking.ensures

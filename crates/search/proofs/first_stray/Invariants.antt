@@ -3,7 +3,7 @@ use Rattle.search.specs.Strays.{NoneBefore}
 use Rattle.search.proofs.first_stray.Given as goal
 
 abbrev pub invariant-loop-p : goal.invariant-loop-p
-invariant-loop-p l = NoneBefore l.keys l.leaders l.right l.end l.p 0
+invariant-loop-p l = NoneBefore l.keys.keys.now l.leaders l.right l.keys.rows l.p 0
 
 abbrev pub invariant-loop-q : goal.invariant-loop-q
-invariant-loop-q l = NoneBefore l.keys l.leaders l.right l.end l.p l.q
+invariant-loop-q l = NoneBefore l.keys.keys.now l.leaders l.right l.keys.rows l.p l.q

@@ -6,4 +6,4 @@ use Rattle.search.specs.Strays.{MarkedBelow}
 use Rattle.search.proofs.mark_leaders.Given as goal
 
 abbrev pub invariant-loop-q : goal.invariant-loop-q
-invariant-loop-q l = (length l.marks ≡ row_bound) × MarkedBelow l.keys l.leaders l.right l.q l.marks
+invariant-loop-q l = (length l.marks ≡ row_bound) × MarkedBelow l.keys.keys.now l.leaders l.right l.q l.marks

@@ -1,9 +1,9 @@
--- `search::strays` meets its contract: on the row by the leader, on a member by the keys.
-use Rattle.search.proofs.Laws.{strays_row, strays_member}
+-- `search::strays` meets its contract: a row strays where it does not agree with its leader.
+use mathlib.Core.Path.{ap}
+use mathlib.Core.Bool.{not}
+use Rattle.search.specs.Strays.{strays}
 use Rattle.search.proofs.strays.Goals as goal
 
-pub returns-then-right-eq-ROW : goal.returns-then-right-eq-ROW
-returns-then-right-eq-ROW c = strays_row _ _ _ _ c.if-right-eq-ROW.true
-
 pub returns : goal.returns
-returns c = strays_member _ _ _ _ c.if-right-eq-ROW.false
+unfolding strays
+returns c = ap not c.agree_right.ensures
