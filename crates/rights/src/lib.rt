@@ -16,7 +16,7 @@ ghost use Rattle.model.specs.Target.{own_rights};
 ghost use Rattle.layout.specs.Targets.{view_of, members_in};
 ghost use Rattle.table.specs.Words.{word};
 ghost use Rattle.table.specs.Broken.{Scanned};
-ghost use Rattle.leaders.specs.Keys.{Keyed};
+ghost use Rattle.leaders.specs.Table.{KeyedBy};
 ghost use Rattle.filled.specs.Filled.{Filled};
 ghost use Rattle.rights.specs.Kept.{undropped, kept};
 ghost use Rattle.rights.specs.Ready.{Tabled, BackedPut, Holding, Ready, Readable, MinimalBy, BackedBy, KeptBy};
@@ -25,7 +25,7 @@ ghost use Rattle.rights.specs.Rights.{listed_rights};
 use bits::power;
 use keys::lay_all;
 use layout::Target;
-use leaders::{ROWS, SIZE};
+use leaders::{ROWS, RowKeys, SIZE};
 use passing::Held;
 use planes::{PLANE, bit_at};
 
@@ -99,17 +99,17 @@ fn back_seeds(target: Target, n: u32, work: &mut [u32])
 }
 
 // Fills the work words for a target whose keys are laid, and answers what they hold.
-fn fill(target: Target, all: &[u16; SIZE], n: u32, end: usize, work: &mut [u32]) -> Held
-    requires { (n ≡ members_in target) × (work_bound ≤ length work.old)
-        × Keyed (view_of target) (2 ^ n - 1) n end all.now }
+fn fill(target: Target, keys: RowKeys, work: &mut [u32]) -> Held
+    requires { (keys.members ≡ members_in target) × (work_bound ≤ length work.old) × KeyedBy (view_of target) keys }
     ensures { (own : ℕ) → Holding result (view_of target.entry) own work.new }
 {
+    let n = keys.members;
     if work.len() < power(n) as usize {
-        scan::sow(all, n, end, work);
+        scan::sow(keys, work);
         back_seeds(target, n, work);
         return Held::Seeds;
     }
-    scan::write(all, n, end, work);
+    scan::write(keys, work);
     back_table(target, n, work);
     Held::Table
 }
@@ -135,10 +135,15 @@ fn enter(target: Target, alone: Option<u32>, work: &mut [u32]) -> Entered
     let end = target.rows();
     let mut all = [0u16; SIZE];
     lay_all(target, &mut all);
+    let keys = RowKeys {
+        keys: &all,
+        members: n,
+        rows: end,
+    };
     let own = own_rights(target);
     match alone {
         Some(left) => {
-            let minimal = partition::minimal_alone(&all, n, end, own, left);
+            let minimal = partition::minimal_alone(keys, own, left);
             let mask = filter_alone(target, left, minimal);
             Entered {
                 held: Held::Table,
@@ -146,7 +151,7 @@ fn enter(target: Target, alone: Option<u32>, work: &mut [u32]) -> Entered
             }
         }
         None => {
-            let held = fill(target, &all, n, end, work);
+            let held = fill(target, keys, work);
             Entered { held, mask: own }
         }
     }

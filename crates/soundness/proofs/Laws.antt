@@ -19,7 +19,6 @@ use Rattle.model.proofs.View.{holds_true, holds_false}
 use Rattle.planes.specs.Bits.{plane_bit, PlaneFrom}
 use Rattle.planes.specs.Plane.{SeedsBelow, Plane, BackedPlane}
 use Rattle.planes.proofs.Plane.{seeds_filled_plane}
-use Rattle.leaders.specs.Keys.{Keyed}
 use Rattle.evidence.specs.Lists.{Each}
 use Rattle.evidence.specs.Sides.{SidesFit, LeftsWithin}
 use Rattle.evidence.proofs.Sides.{sides_own, lefts_narrow}

@@ -24,7 +24,7 @@ ghost use Rattle.soundness.specs.Sound.{FitsFor, SoundIn, SoundFor};
 use evidence::sides_fit;
 use keys::lay_all;
 use layout::Target;
-use leaders::SIZE;
+use leaders::{RowKeys, SIZE};
 use marks::{PackedEntries, close_lefts, entries_sound, wide};
 use model::{Entry, ROW};
 use planes::PLANE;
@@ -63,7 +63,17 @@ fn sow(target: Target, m: u32, seeds: &mut [u32])
 {
     let mut all = [0u16; SIZE];
     lay_all(target, &mut all);
-    sow_among(&all, target.members(), m, target.rows(), seeds);
+    let n = target.members();
+    let end = target.rows();
+    sow_among(
+        RowKeys {
+            keys: &all,
+            members: n,
+            rows: end,
+        },
+        m,
+        seeds,
+    );
 }
 
 // Are the entries sound that are for the target and the right of bit a?

@@ -9,5 +9,5 @@ use Rattle.records.proofs.agree_on.Goals as goal
 pub returns : goal.returns
 returns c =
     let a = c.args in
-    all_below _ _ _ _ (AgreeAt a.keys.now a.set a.p a.q) c.all.ensures.ran
+    all_below _ _ _ _ (AgreeAt a.keys a.set a.p a.q) c.all.ensures.ran
     (λ x q k. search (rules, tests)) (λ x q k. search (rules, tests)) refl

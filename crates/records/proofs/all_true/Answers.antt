@@ -12,6 +12,6 @@ use Rattle.records.proofs.all_true.Goals as goal
 pub returns : goal.returns
 returns c =
     let a = c.args in
-    same_as (each_record (TrueByFor a.keys.now a.n a.low a.end a.target) a.records.bytes.now a.records.count)
-    (all_below _ _ _ _ (λ i. TrueByFor a.keys.now a.n a.low a.end a.target (record_of a.records i)) c.all.ensures.ran
+    same_as (each_record (TrueByFor a.keys a.low a.target) a.records.bytes.now a.records.count)
+    (all_below _ _ _ _ (λ i. TrueByFor a.keys a.low a.target (record_of a.records i)) c.all.ensures.ran
     (λ x q k. search (rules, tests)) (λ x q k. search (rules, tests)) refl)

@@ -1,5 +1,4 @@
 -- `records::target_true` meets its contract.
-use mathlib.Core.Path.{refl}
 use Rattle.evidence.proofs.Answers.{same_answer}
 use Rattle.keys.proofs.Catalogue.{keyed_for}
 use Rattle.records.proofs.Laws.{all_true_by}
@@ -8,7 +7,6 @@ use Rattle.records.proofs.target_true.Goals as goal
 pub returns : goal.returns
 returns c =
     let t = c.args.target in
-    let by = all_true_by t.cat.now t.accepted _ t.table _ _ _ _ t.known
-    c.members-n.ensures.is c.inherited-low.ensures.is c.rows.ensures.is
-    (keyed_for _ c.members-n.ensures.is refl c.lay_all.ensures) in
+    let by = all_true_by t.cat.now _ _ t.table _ t.known c.inherited-low.ensures.is
+    (keyed_for _ c.members-n.ensures.is c.rows-end.ensures.is c.lay_all.ensures) in
     same_answer by.0 by.1 c.all_true.ensures

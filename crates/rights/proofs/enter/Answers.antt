@@ -11,8 +11,6 @@ use Rattle.rights.proofs.enter.Goals as goal
 pub minimal_alone-minimal-requires : goal.minimal_alone-minimal-requires
 minimal_alone-minimal-requires c =
     let e = c.members-n.ensures.is in record {
-      n_le_column_bound = c.members-n.ensures.few;
-      end_le_row_bound = c.rows-end.ensures.few;
       x_bound = subst (λ (n : ℕ). c.in-Some.left < 2 ^ n) (sym e)
           (MatchOption-at_some Unit (λ x. x < 2 ^ members_in c.args.target) _ c.in-Some.is c.requires.left_bound);
       own_bound = own_fits _ _ e c.own_rights-own.ensures;

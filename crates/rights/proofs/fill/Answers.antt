@@ -10,12 +10,8 @@ power-requires c = let k = c.requires.2.few in omega arith
 
 pub sow-requires : goal.sow-requires
 sow-requires c =
-    let p = c.requires in (
-      narrow_wide _ _ p.1 (omega (arith, c.power.ensures)),
-      p.2.few,
-      p.2.short,
-      omega (arith, narrow_fits _ _ p.1 p.2.few),
-    )
+    let p = c.requires in
+    (narrow_wide _ _ p.1 (omega (arith, c.power.ensures)), omega (arith, narrow_fits _ _ p.1 p.2.few))
 
 pub back_seeds-requires : goal.back_seeds-requires
 back_seeds-requires c =
@@ -31,15 +27,13 @@ returns-then-work-power c =
     let t = c.args.target in
     λ own.
     holds_seeds (view_of t) own _ _ _ p.2.members (narrow_wide _ _ p.1 (omega (arith, c.power.ensures)))
-    (omega (arith, narrow_fits c.args.n _ p.1 p.2.few))
+    (omega (arith, narrow_fits c.args.keys.members _ p.1 p.2.few))
     (c.sow.ensures.sown (view_of t) p.2 (view_equivalence t.cat.now t.table))
     c.sow.ensures.n_after
     c.back_seeds.ensures
 
 pub write-requires : goal.write-requires
-write-requires c =
-    let p = c.requires in
-    (p.2.few, p.2.short, omega (arith, c.power.ensures))
+write-requires c = omega (arith, c.power.ensures)
 
 pub back_table-requires : goal.back_table-requires
 back_table-requires c =
