@@ -10,9 +10,11 @@ use native.Mathlib.Omega.{arith}
 use lib.ListN.{length, set, length-set, replicate, length-replicate}
 use lib.Seq.{get_or-set_same, get_or-set_other}
 use Rattle.columns.specs.Bound.{column_bound}
+use Rattle.model.specs.View.{View}
 use Rattle.table.specs.Words.{word}
 use Rattle.table.specs.Broken.{agree_set_of, Pair}
 use Rattle.leaders.specs.Keys.{key_view}
+use Rattle.lines.specs.Lines.{LineOf}
 use Rattle.scan.specs.SeenSets.{InLine, seen_at, SetNoted, LineNoted, Blank}
 
 pub noted_now : (s : ℕ) (seen : List Bool) → s < length seen → SetNoted s seen (set seen s true)
@@ -55,6 +57,35 @@ pub record SeenBefore (keys : List ℕ) (n end x : ℕ) (seen : List Bool) : Typ
   pub occurs : (s : ℕ)
       → (seen_at seen s ≡ true)
       ↔ ((p : ℕ) × (q : ℕ) × (p < x) × Pair (key_view keys n end) p q × (agree_set_of (key_view keys n end) p q ≡ s))
+
+-- and the line of row x brings the pairs of that row
+pub seen_more : {keys : List ℕ} {n end x : ℕ} {line : List ℕ} {before after : List Bool}
+    → LineOf (agree_set_of (key_view keys n end) x) x end line → LineNoted line (x + 1) end before after
+    → SeenBefore keys n end x before → SeenBefore keys n end (x + 1) after
+seen_more {keys} {n} {end} {x} {line} {before} line-is more h = record {
+  long = more.same_length ∙ h.long;
+  occurs = λ s. (
+    λ u. ⊎_elim
+        (λ b. let o = (h.occurs s).0 b in (o.0, o.1, omega (arith, o.2), o.3, o.4))
+        (λ g. (x, g.0, omega arith, (omega (arith, g.1), g.2), sym (line-is.at g.0 (omega (arith, g.1)) g.2) ∙ g.3))
+        ((more.noted s).0 u),
+    λ o. (more.noted s).1 (at s o (ℕ_discrete o.0 x)),
+  );
+}
+  where
+    v : View
+    v = key_view keys n end
+
+    at : (s : ℕ) (o : (p : ℕ) × (q : ℕ) × (p < x + 1) × Pair v p q × (agree_set_of v p q ≡ s)) → Dec (o.0 ≡ x)
+        → (seen_at before s ≡ true) ⊎ InLine line (x + 1) end s
+    at s o (yes e) =
+        inr (
+          o.1,
+          omega (arith, e, o.3.0),
+          o.3.1,
+          line-is.at o.1 (omega (arith, e, o.3.0)) o.3.1 ∙ ap (λ (p : ℕ). agree_set_of v p o.1) (sym e) ∙ o.4,
+        )
+    at s o (no d) = inl ((h.occurs s).1 (o.0, o.1, omega (arith, d, o.2), o.3, o.4))
 
 flags_blank : (m s : ℕ) → seen_at (replicate m false) s ≡ false
 flags_blank zero s = refl
