@@ -14,12 +14,12 @@ use Rattle.columns.specs.Bound.{column_bound}
 use Rattle.columns.specs.Set.{bit}
 use Rattle.columns.proofs.Bits.{below_own_power, bits_same}
 use Rattle.columns.proofs.Test.{if_eq_yes, if_eq_no}
-use Rattle.model.specs.Bounds.{row, row_bound}
+use Rattle.model.specs.Bounds.{row}
 use Rattle.model.specs.Catalogue.{rows, visible}
 use Rattle.model.specs.View.{View, Within, holds}
 use Rattle.model.specs.Pair.{first_pair}
 use Rattle.model.specs.Target.{view}
-use Rattle.model.proofs.Check.{accepted_visible, accepted_rows}
+use Rattle.model.proofs.Check.{accepted_visible}
 use Rattle.model.specs.Rights.{right_at}
 use Rattle.table.proofs.Bits.{bit_none, bit_power_same, bit_power_other, bit_with_same, bit_with_other}
 use Rattle.table.proofs.Table.{right_row, right_column, bit_zero_if}
@@ -121,9 +121,6 @@ module _ (n a : ℕ) where
 module _ {b : List ℕ} {t x a : ℕ} (posed : Posed b t x a) where
   pub posed_few : {n : ℕ} → n ≡ visible b t → n ≤ column_bound
   posed_few e = omega (arith, accepted_visible b posed.accepted t posed.target)
-
-  pub posed_short : {end : ℕ} → end ≡ rows b t → end ≤ row_bound
-  posed_short e = omega (arith, accepted_rows b posed.accepted t posed.target)
 
   pub posed_right : {n : ℕ} → n ≡ visible b t → (a ≡ row → ⊥) → a < n
   posed_right e d = omega (arith, posed.right d)

@@ -13,7 +13,7 @@ ghost use Rattle.dependency.specs.Posed.{Posed, members_asked, right_bit};
 use bits::power;
 use keys::lay;
 use layout::{Target, rows, visible};
-use leaders::SIZE;
+use leaders::{RowKeys, SIZE};
 use model::{ROW, RowPair};
 use partition::given;
 use search::first_pair;
@@ -56,16 +56,15 @@ pub fn holds(cat: &[u8], target: u32, left: u32, right: u32) -> bool
     requires { Posed cat.now target left right }
     ensures { result ≡ holds_in (view cat.now target) left right }
 {
-    let mut keys = [0u16; SIZE];
-    lay_question(cat, target, left, right, &mut keys);
-    let n = visible(cat, target);
-    given(
-        &keys,
-        n,
-        rows(cat, target) as usize,
-        left,
-        right_bit(n, right),
-    ) != 0
+    let mut all = [0u16; SIZE];
+    lay_question(cat, target, left, right, &mut all);
+    let members = visible(cat, target);
+    let keys = RowKeys {
+        keys: &all,
+        members,
+        rows: rows(cat, target) as usize,
+    };
+    given(keys, left, right_bit(members, right)) != 0
 }
 
 // The first breaking pair.
@@ -73,13 +72,12 @@ pub fn breaking_pair(cat: &[u8], target: u32, left: u32, right: u32) -> Option<R
     requires { Posed cat.now target left right }
     ensures { rows_found result ≡ first_pair (view cat.now target) left right }
 {
-    let mut keys = [0u16; SIZE];
-    lay_question(cat, target, left, right, &mut keys);
-    first_pair(
-        &keys,
-        visible(cat, target),
-        rows(cat, target) as usize,
-        left,
-        right,
-    )
+    let mut all = [0u16; SIZE];
+    lay_question(cat, target, left, right, &mut all);
+    let keys = RowKeys {
+        keys: &all,
+        members: visible(cat, target),
+        rows: rows(cat, target) as usize,
+    };
+    first_pair(keys, left, right)
 }

@@ -138,6 +138,20 @@ module _ (keys leaders : List ℕ) (end wanted : ℕ) where
               λ f. let l = f.0 in b ∙ (below.members j).1 (omega arith, f.1, f.2),
             )
 
+    -- a member that is not given changes nothing
+    pub below_kept : (Gives keys leaders a end → ⊥) → GivenBelow keys leaders end wanted (suc a) r
+    below_kept n = record { members = λ j. at j (ℕ_discrete j a) }
+      where
+        at : (j : ℕ) → Dec (j ≡ a) → (bit r j ≡ 1) ↔ ((j < suc a) × (bit wanted j ≡ 1) × Gives keys leaders j end)
+        at j (yes e) = (
+          λ i. let l = ((below.members j).0 i).0 in absurd (omega arith),
+          λ f. absurd (n (subst (λ (j : ℕ). Gives keys leaders j end) e f.2)),
+        )
+        at j (no d) = (
+          λ i. let f = (below.members j).0 i in let l = f.0 in (omega arith, f.1, f.2),
+          λ f. let l = f.0 in (below.members j).1 (omega arith, f.1, f.2),
+        )
+
 -- the rights of x that need each of its members are the minimal ones
 module _ (keys : List ℕ) (n end x own : ℕ) (few : n ≤ column_bound) (small : x < 2 ^ n) (asked : own < 2 ^ suc n)
     (start r : ℕ)
