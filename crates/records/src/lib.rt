@@ -1,7 +1,7 @@
 // Not for callers: are the evidence records of a target true? From the keys of its members, which are laid once for
 // all records of the target.
-// Relies on `evidence` for the records and the sides that a target allows, on `keys` for the keys and on `layout` for
-// the target, its rows and columns. Called by `verify`.
+// Relies on `evidence` for the records and the sides that a target allows, on `keys` and `leaders` for the keys and on
+// `layout` for the target, its rows and columns. Called by `verify`.
 #![tactic(auto)]
 
 ghost use Rattle.std.specs.Prelude.{◌<◌, ◌≡◌, true, ◌↔◌};

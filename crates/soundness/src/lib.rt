@@ -65,15 +65,12 @@ fn sow(target: Target, m: u32, seeds: &mut [u32])
     lay_all(target, &mut all);
     let n = target.members();
     let end = target.rows();
-    sow_among(
-        RowKeys {
-            keys: &all,
-            members: n,
-            rows: end,
-        },
-        m,
-        seeds,
-    );
+    let keys = RowKeys {
+        keys: &all,
+        members: n,
+        rows: end,
+    };
+    sow_among(keys, m, seeds);
 }
 
 // Are the entries sound that are for the target and the right of bit a?
