@@ -10,11 +10,6 @@ import glob
 import re
 import sys
 
-FUNCTION = re.compile(
-    r'^ *(?:pub )?(?:extern "C" )?fn (\w+)(?:<[^>\n]*>)?\(([^{]*?)\)(?: -> ([^\n{]*?))?[ \n](?=\n| *(?:requires|ensures|\{))'
-    r'((?:\n?(?: {4,}(?:requires|ensures| {4}).*)?)*)', re.M)
-
-
 def sources():
     return [(f, open(f).read()) for f in sorted(glob.glob("crates/*/src/*.rt"))]
 
@@ -108,12 +103,6 @@ def point4():
             yield f, line, "fn %s only converts" % name
         elif re.match(r"(earlier|precedes|number|refusal|same\w*|eq|cmp|put2|put4|negative|wide_negative)$", name):
             yield f, line, "fn %s" % name
-
-
-def conjuncts(head):
-    for m in re.finditer(r"(?:requires|ensures)(?: \w+)? \{((?:[^{}]|\{[^}]*\})*)\}", head):
-        for part in re.split(r"\s×\s", re.sub(r"\s+", " ", m[1])):
-            yield part.strip()
 
 
 def point5():
