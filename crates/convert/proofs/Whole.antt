@@ -7,15 +7,17 @@ use native.Mathlib.Omega.{arith}
 use lib.ListN.{length, drop}
 use Rattle.columns.proofs.Test.{is_if_eq, is_if_ne}
 use Rattle.model.specs.Bounds.{row_bound}
-use Rattle.model.specs.Refusal.{or_else, first_of}
+use Rattle.model.specs.Refusal.{last_refusal, or_else, first_of}
 use Rattle.model.specs.Catalogue.{tables, columns}
 use Rattle.model.specs.Check.{Accepted, check_code}
-use Rattle.model.specs.Convert.{Tag, tags_in, count_of, converted, form_code, fit_code, many_code}
+use Rattle.model.specs.Convert.{Tag, tags_in, count_of, converted, form_code, empty_code, fit_code, many_code}
 use Rattle.model.specs.Convert.{full_code}
 use Rattle.model.specs.Convert.{convert_code, converted_output}
-use Rattle.model.proofs.Grounds.{or_else_left, or_else_assoc, first_of_each}
+use Rattle.model.proofs.Grounds.{or_else_left, or_else_assoc, or_else_le, first_of_le, first_of_each}
+use Rattle.model.proofs.Grounds.{if_eq_le, if_lt_le}
 use Rattle.model.proofs.Grounds.{or_else_right, if_lt_fails, is_this, is_next}
 use Rattle.model.proofs.Check.{accepted_tables, accepted_columns}
+use Rattle.grounds.proofs.Sound.{check_code_le}
 use Rattle.encoding.specs.Sizes.{size_of}
 use Rattle.tags.specs.Counts.{Counts}
 use Rattle.sheets.specs.Sheets.{size_in, sizes_in, file_size, Few}
@@ -40,6 +42,21 @@ convert_first shape text room e n =
 pub convert_second : (shape text : List ℕ) (room : ℕ) {r : ℕ} → 0 ≡ text_code shape text
     → r ≡ full_code shape text room → r ≡ convert_code shape text room
 convert_second shape text room z e = is_next (text_code shape text) (sym z) e ∙ sym (convert_parts shape text room)
+
+-- their numbers
+pub text_code_le : (shape text : List ℕ) → text_code shape text ≤ last_refusal
+unfolding form_code fit_code empty_code
+text_code_le shape text =
+    or_else_le (omega (arith, check_code_le shape))
+    (or_else_le (if_eq_le _ _ (omega arith) (omega arith))
+    (or_else_le (first_of_le (tables shape) 0 _ (λ t. if_eq_le _ _ (omega arith) (omega arith)))
+    (if_eq_le _ _ (omega arith) (omega arith))))
+
+pub full_code_le : (shape text : List ℕ) (room : ℕ) → full_code shape text room ≤ last_refusal
+unfolding full_code many_code
+full_code_le shape text room =
+    or_else_le (first_of_le (tables shape) 0 _ (λ t. if_lt_le _ _ (omega arith) (omega arith)))
+    (if_lt_le _ _ (omega arith) (omega arith))
 
 -- without a ground the shape is accepted, no table has too many rows, and there is room
 pub text_accepted : (shape text : List ℕ) → 0 ≡ text_code shape text → Accepted shape

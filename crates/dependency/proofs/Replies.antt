@@ -1,9 +1,10 @@
--- What a question's code says: what is known where there is no refusal, and what is then replied.
-use Prim.Native.Nat.{ℕ, ◌^◌, ◌<◌}
+-- What a question's code says: which refusal it is, what is known where there is none, and what is then replied.
+use Prim.Native.Nat.{ℕ, ◌^◌, ◌≤◌, ◌<◌}
 use mathlib.Core.Path.{◌≡◌, refl, sym, ap, ◌∙◌}
 use mathlib.Core.List.{List, [], ◌∷◌}
 use mathlib.Core.Bool.{Bool, true, false}
 use native.Mathlib.Omega.{arith}
+use lib.Dec.{lit≤}
 use lib.ListN.{length, replicate}
 use Rattle.std.specs.Prelude.{Ok, Option, Some, None}
 use Rattle.columns.specs.Test.{pick, if_eq, if_lt}
@@ -13,21 +14,34 @@ use Rattle.model.specs.Catalogue.{tables, visible, inherited}
 use Rattle.model.specs.Check.{check_code}
 use Rattle.model.specs.Refusal.{number}
 use Rattle.model.specs.declared.Refusal.{Refusal}
-use Rattle.model.specs.declared.Refusal.TheVariants.{UnknownRight}
+use Rattle.model.specs.declared.Refusal.TheVariants.{TooFewWords, UnknownRight}
 use Rattle.model.specs.declared.RowPair.{RowPair}
 use Rattle.model.specs.Reply.{refused, answered, ask_reply, pair_reply, words_after}
-use Rattle.model.specs.Question.{target_code, left_side_code, right_side_code, sides_code}
+use Rattle.model.specs.Question.{target_code, left_side_code, right_side_code, sides_code, words_code}
 use Rattle.model.specs.Question.{question_code, ask_meaning, pair_meaning}
 use Rattle.model.specs.View.{holds}
 use Rattle.model.specs.Pair.{first_pair}
 use Rattle.model.specs.Target.{view}
 use Rattle.model.proofs.Codes.{number_pos}
-use Rattle.model.proofs.Grounds.{or_else_left, or_else_both, if_lt_passes, if_lt_fails}
+use Rattle.model.proofs.Grounds.{or_else_left, or_else_both, if_lt_passes, if_lt_fails, if_eq_le, if_lt_le, or_else_le}
 use Rattle.model.proofs.Grounds.{reply_refused, reply_answered}
+use Rattle.grounds.proofs.Sound.{check_code_le}
 use Rattle.search.specs.Strays.{rows_found}
 use Rattle.dependency.specs.Posed.{Posed}
 
 module _ (cat : List ℕ) (target left right words : ℕ) where
+  -- a question's code is 0 or the number of one of its refusals, of which the last is for too few words
+  pub question_le : question_code cat target left right words ≤ number TooFewWords
+  unfolding question_code sides_code target_code left_side_code right_side_code words_code
+  question_le =
+      let c = check_code_le cat in
+      or_else_le (omega arith)
+      (or_else_le
+      (or_else_le (if_lt_le _ _ (lit≤ tt) (lit≤ tt))
+      (or_else_le (if_lt_le _ _ (lit≤ tt) (lit≤ tt))
+      (if_eq_le _ _ (lit≤ tt) (if_lt_le _ _ (lit≤ tt) (if_lt_le _ _ (lit≤ tt) (lit≤ tt))))))
+      (if_lt_le _ _ (lit≤ tt) (lit≤ tt)))
+
   -- where there is no ground, the question is posed as it must be
   pub posed : question_code cat target left right words ≡ 0 → Posed cat target left right
   unfolding question_code sides_code target_code left_side_code right_side_code

@@ -80,17 +80,17 @@ fn join_cells(cat: &[u8], from: usize, c: usize, set: u32) -> u32
     joined
 }
 
-// The members whose cells are present in row p of a target: table by table from the target up to the root, by the rows
-// that p leads to.
-fn present_set(target: Target, p: usize) -> u32
-    requires { p < rows_in target }
+// The members whose cells are present in row p of a target with n members: table by table from the target up to the
+// root, by the rows that p leads to. The number is handed on, since to ask the target for it is a climb of its own.
+fn present_set(target: Target, n: u32, p: usize) -> u32
+    requires { (n ≡ members_in target) × (p < rows_in target) }
     ensures { result ≡ present_set_of (view_of target.entry) p }
 {
     let cat = target.cat;
     let first = trailer(cat) as usize;
     let mut at = target.table as usize;
     let mut row = p;
-    let mut above = target.members() as usize;
+    let mut above = n as usize;
     let mut set: u32 = 0;
     // It counts no index: the climb goes by the parents that the bytes name.
     'climb: loop {
@@ -112,8 +112,9 @@ pub fn lay(target: Target, sets: &mut [u32; ROWS])
     requires { length sets.old ≡ row_bound }
     ensures { PresentSets (view_of target.entry) (members_in target.entry) (rows_in target.entry) sets.new }
 {
+    let n = target.members();
     for q in 0..target.rows() {
-        sets[q] = present_set(target, q);
+        sets[q] = present_set(target, n, q);
     }
 }
 

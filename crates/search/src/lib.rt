@@ -70,7 +70,8 @@ fn follows(keys: RowKeys, leaders: &[u16; ROWS], right: u32, p: usize, q: usize)
     strays(keys, leaders, right, q)
 }
 
-// The lowest leader that a row strays from, and the lowest such row.
+// The lowest leader that a row strays from, and the lowest such row. The loops over rows are left by a label with the
+// pair, as docs/PROMISES.md names the form of this search.
 fn first_stray(
     keys: RowKeys,
     leaders: &[u16; ROWS],
@@ -82,17 +83,19 @@ fn first_stray(
     ensures { FirstStray keys.entry.keys.now leaders.now right keys.entry.rows result }
 {
     let end = keys.rows;
-    for p in 0..end {
-        for q in row_after(marks, p, end)..end {
-            if follows(keys, leaders, right, p, q) {
-                return Some(RowPair {
-                    first: p as u32,
-                    second: q as u32,
-                });
+    'rows: {
+        for p in 0..end {
+            for q in row_after(marks, p, end)..end {
+                if follows(keys, leaders, right, p, q) {
+                    break 'rows Some(RowPair {
+                        first: p as u32,
+                        second: q as u32,
+                    });
+                }
             }
         }
+        None
     }
-    None
 }
 
 // The first breaking pair of the left side x and the right side, the lower row first, or that there is none.

@@ -11,7 +11,9 @@ use layout::Target;
 use passing::{Walk, passed};
 use rights::Entered;
 
-// Passes the walk's set, whose rights the work words tell.
+// Passes the walk's set, whose rights the work words tell. It is written out where it is called: a walk handed over and
+// back goes through memory, for every set of a listing.
+#[inline(always)]
 fn pass(cat: &[u8], w: Walk, work: &mut [u32]) -> Option<Walk>
     requires accepted { Accepted cat.now }
     requires fresh { Fresh (ordinary cat.now) w work.old }

@@ -6,7 +6,7 @@ use Rattle.presence.proofs.Climbing.{climbing_done, parent_lower, climbing_next}
 use Rattle.presence.proofs.present_set.Goals as goal
 
 pub climb-init : goal.climb-init
-climb-init c = climbing_begun _ _ _ _ c.args.target.known c.members-above.ensures.is c.requires
+climb-init c = climbing_begun _ _ _ _ c.args.target.known c.requires.0 c.requires.1
 
 pub overflow_mul-at : goal.overflow_mul-at
 overflow_mul-at c =
