@@ -33,12 +33,20 @@ fn entry_ok(e: Entry) -> bool
         && (right == ROW || right < COLUMN_BOUND && !left_set(e).member(right))
 }
 
+// The left side's number and, under it, the right's, as one number: neighbours in a list mostly differ here, and one
+// comparison tells.
+fn left_and_right(e: Entry) -> u64
+    ensures { result ≡ e.left * 256 + e.right }
+{
+    u64::from(e.left) * 256 + u64::from(e.right)
+}
+
 // Does e stand before f in listing order?
 fn earlier(e: Entry, f: Entry) -> bool
     ensures { result ≡ earlier e f }
 {
-    (e.target, left_set(e).size(), e.left, e.right)
-        < (f.target, left_set(f).size(), f.left, f.right)
+    (e.target, left_set(e).size(), left_and_right(e))
+        < (f.target, left_set(f).size(), left_and_right(f))
 }
 
 // 15: may the entry stand in a list, behind the one before if there is one?
