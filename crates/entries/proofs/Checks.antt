@@ -18,7 +18,8 @@ use Rattle.model.specs.Refusal.{number, or_else}
 use Rattle.model.specs.Entries.{entry_bytes, entry_at, entries_from, entry_code, later_code, rest_code, entries_code}
 use Rattle.model.specs.declared.Entry.{Entry}
 use Rattle.model.specs.declared.Refusal.TheVariants.{BadEntry}
-use Rattle.entries.specs.Verdict.{bad_unless, code_after, codes_after}
+use Rattle.entries.specs.declared.rank.Ranked.{Ranked}
+use Rattle.entries.specs.Verdict.{bad_unless, entry_in, code_after, codes_after}
 use Rattle.entries.proofs.OneEntry.{entry_cut}
 use Rattle.model.proofs.Grounds.{or_else_next, or_else_assoc, is_this, is_next}
 
@@ -57,6 +58,13 @@ unfolding later_code
 alone_fine None e t p q f = ap bad_unless q ∙ p
 alone_fine (Some d) e t p q f =
     is_next _ (sym p) (not_bad t ∙ ap (λ (u : Bool). pick u 0 (number BadEntry)) (f d q))
+
+-- the same where the one before has its rank
+pub ranked_fine : {P : Ranked → Type 0} (b : Option Ranked) (e : Entry) (t : Bool) → 0 ≡ entry_code e
+    → MatchOption b (t ≡ true) P → ((d : Ranked) → P d → t ≡ earlier d.it e)
+    → bad_unless t ≡ code_after (entry_in b) e
+ranked_fine None e t p q f = alone_fine {P = λ d. t ≡ earlier d e} None e t p q (λ d h. h)
+ranked_fine (Some d) e t p q f = alone_fine {P = λ d. t ≡ earlier d e} (Some d.it) e t p (f d q) (λ d h. h)
 
 -- the entries that are left, after the first of them
 next_code : (b : Option Entry) (e : Entry) (es : List Entry)

@@ -1,4 +1,5 @@
 pub mod Grounds
 pub mod OneEntry
 pub mod Entries
+pub mod Members
 pub mod Checks

@@ -1,2 +1,3 @@
 pub mod Small
+pub mod Rank
 pub mod Verdict

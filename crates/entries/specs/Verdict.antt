@@ -4,10 +4,16 @@ use Rattle.model.specs.Refusal.{number, or_else}
 use Rattle.model.specs.Entries.{entry_code, later_code, rest_code, entries_code}
 use Rattle.model.specs.declared.Entry.{Entry}
 use Rattle.model.specs.declared.Refusal.TheVariants.{BadEntry}
+use Rattle.entries.specs.declared.rank.Ranked.{Ranked}
 
 abbrev pub bad_unless : Bool → ℕ
 bad_unless true = 0
 bad_unless false = number BadEntry
+
+-- the entry before, if there is one, without its rank
+abbrev pub entry_in : Option Ranked → Option Entry
+entry_in None = None
+entry_in (Some d) = Some d.it
 
 -- of an entry behind the one before, or with none before
 abbrev pub code_after : Option Entry → Entry → ℕ

@@ -5,15 +5,17 @@
 // entries as bytes.
 #![tactic(auto)]
 
+mod rank;
+
 ghost use Rattle.std.specs.Prelude.{◌+◌, ◌*◌, ◌≤◌, ◌≡◌, length};
-ghost use Rattle.columns.specs.Set.{size_of};
 ghost use Rattle.model.specs.Entry.{earlier};
 ghost use Rattle.model.specs.Entries.{entry_bytes, entry_code, entries_code, entry_at, entries_from};
-ghost use Rattle.entries.specs.Verdict.{bad_unless, code_after};
+ghost use Rattle.entries.specs.Verdict.{bad_unless, code_after, entry_in};
 
 use columns::{COLUMN_BOUND, ColumnSet};
 use file::{byte_at, u16_at};
 use model::{ENTRY_BYTES, Entry, ROW, TABLE_BOUND};
+pub use rank::{Ranked, with_rank};
 
 // The left side of an entry.
 fn left_set(e: Entry) -> ColumnSet
@@ -33,27 +35,18 @@ fn entry_ok(e: Entry) -> bool
         && (right == ROW || right < COLUMN_BOUND && !left_set(e).member(right))
 }
 
-// The left side's number and, under it, the right's, as one number: neighbours in a list mostly differ here, and one
-// comparison tells.
-fn left_and_right(e: Entry) -> u64
-    ensures { result ≡ e.left * 256 + e.right }
-{
-    u64::from(e.left) * 256 + u64::from(e.right)
-}
-
 // Does e stand before f in listing order?
-fn earlier(e: Entry, f: Entry) -> bool
-    ensures { result ≡ earlier e f }
+fn earlier(e: Ranked, f: Ranked) -> bool
+    ensures { result ≡ earlier e.it f.it }
 {
-    (e.target, left_set(e).size(), left_and_right(e))
-        < (f.target, left_set(f).size(), left_and_right(f))
+    e.rank < f.rank
 }
 
 // 15: may the entry stand in a list, behind the one before if there is one?
-pub fn fine_after(before: Option<Entry>, e: Entry) -> bool
-    ensures { bad_unless result ≡ code_after before e }
+pub fn fine_after(before: Option<Ranked>, e: Ranked) -> bool
+    ensures { bad_unless result ≡ code_after (entry_in before) e.it }
 {
-    entry_ok(e) && before.is_none_or(|d| earlier(d, e))
+    entry_ok(e.it) && before.is_none_or(|d| earlier(d, e))
 }
 
 // The entry whose bytes begin at a position; a byte past the end reads as 0.
@@ -83,7 +76,7 @@ pub fn entries_ok(file: &[u8], count: u32, from: usize) -> bool
     let mut before = None;
     for i in 0..count {
         let at = from + ENTRY_BYTES * (i as usize);
-        let e = entry_from(&file[at..at + ENTRY_BYTES], 0);
+        let e = with_rank(entry_from(&file[at..at + ENTRY_BYTES], 0));
         if !fine_after(before, e) {
             return false;
         }

@@ -96,5 +96,6 @@ all_written es o out i h l q =
     (take_all (length es) es (omega arith))
 
 -- the first of the entries that are left
-pub left_in : (es : List Entry) (i : ℕ) → i < length es → drop i es ≡ get_or es i (entry 0 0 0) ∷ drop (i + 1) es
-left_in es i h = rw (add-one i) (drop-cons es i (entry 0 0 0) h)
+pub left_in : (es : List Entry) (i : ℕ) {e : Entry} → i < length es → e ≡ get_or es i (entry 0 0 0)
+    → drop i es ≡ e ∷ drop (i + 1) es
+left_in es i h q = rw (q, add-one i) (drop-cons es i (entry 0 0 0) h)

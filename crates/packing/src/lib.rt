@@ -8,7 +8,7 @@ ghost use Rattle.model.specs.Refusal.{code_of};
 ghost use Rattle.model.specs.Entries.{entry_bytes, bytes_of, entries_code};
 ghost use Rattle.model.specs.Packing.{distance_of, output_code, packed};
 
-use entries::fine_after;
+use entries::{fine_after, with_rank};
 use file::{put_u16, put_u32};
 use model::{ENTRY_BYTES, Entry, Refusal, TRAILER_BYTES};
 
@@ -19,10 +19,11 @@ pub fn check_entries(entries: &[Entry]) -> Result<(), Refusal>
 {
     let mut before = None;
     for e in entries {
-        if !fine_after(before, *e) {
+        let e = with_rank(*e);
+        if !fine_after(before, e) {
             return Err(Refusal::BadEntry);
         }
-        before = Some(*e);
+        before = Some(e);
     }
     Ok(())
 }

@@ -3,10 +3,10 @@
 use mathlib.Core.Path.{◌≡◌}
 use Prim.Native.Nat.{◌+◌, ◌-◌, ◌*◌}
 use Rattle.model.specs.Entries.{entry_bytes, entries_from, entries_code}
-use Rattle.entries.specs.Verdict.{codes_after}
+use Rattle.entries.specs.Verdict.{entry_in, codes_after}
 use Rattle.entries.proofs.entries_ok.Given as goal
 
 abbrev pub invariant-loop-i : goal.invariant-loop-i
 invariant-loop-i l =
     entries_code (entries_from l.file l.count l.from)
-    ≡ codes_after l.before (entries_from l.file (l.count - l.i) (l.from + entry_bytes * l.i))
+    ≡ codes_after (entry_in l.before) (entries_from l.file (l.count - l.i) (l.from + entry_bytes * l.i))
