@@ -1,11 +1,11 @@
-// An entry's place in listing order as one number, worked out once for each entry of a list.
+// An entry's rank: listing order as one number, worked out once for each entry of a list.
 ghost use Rattle.std.specs.Prelude.{◌≡◌};
 ghost use Rattle.entries.specs.Rank.{rank_of};
 
 use crate::left_set;
 use model::Entry;
 
-// An entry with that number, which is part of the type.
+// An entry with its rank, which is part of the type.
 #[derive(Clone, Copy)]
 pub struct Ranked {
     pub it: Entry,
@@ -13,7 +13,7 @@ pub struct Ranked {
     pub ghost ranked: { rank ≡ rank_of it },
 }
 
-// The entry with its number.
+// The entry with its rank.
 pub fn with_rank(e: Entry) -> Ranked
     ensures { result.it ≡ e }
 {

@@ -22,12 +22,12 @@ use unpacking::{count_in, distance_in, entry_at, front_by, position_after, read_
 pub fn open(file: &[u8]) -> Result<Opened, Refusal>
     ensures { open_reply result ≡ open_meaning file.now }
 {
+    if file.len() < TRAILER_BYTES {
+        return Err(Refusal::NoList);
+    }
     let count = count_in(file);
     let distance = distance_in(file);
-    if file.len() < TRAILER_BYTES
-        || distance != ENTRY_BYTES * (count as usize) + TRAILER_BYTES
-        || file.len() < distance
-    {
+    if distance != ENTRY_BYTES * (count as usize) + TRAILER_BYTES || file.len() < distance {
         return Err(Refusal::NoList);
     }
     let first = file.len() - distance;

@@ -13,7 +13,7 @@ use file::{put_u16, put_u32};
 use model::{ENTRY_BYTES, Entry, Refusal, TRAILER_BYTES};
 
 // 15, entry by entry, each behind the one before. It stays beside `entries::entries_ok`, whose entries stand in bytes:
-// both loops are `fine_after` and little else.
+// both loops are `with_rank`, `fine_after` and little else.
 pub fn check_entries(entries: &[Entry]) -> Result<(), Refusal>
     ensures { code_of result ≡ entries_code entries.now }
 {
